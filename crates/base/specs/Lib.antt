@@ -1,0 +1,4 @@
+pub mod Notation
+pub mod Outcome
+pub mod Filled
+pub mod Entries

@@ -1,0 +1,32 @@
+use borrow.Author.Needs.{needs}
+use borrow.Author.Tests.{lt-ltb, le-ltb}
+use mathlib.Core.Bool.{_&&_, false}
+use lib.Dec.{ltb}
+use Rattle.levels.specs.Params.{segFeatureActive}
+use Rattle.levels.proofs.dequant.seg_feature_active.Statement.{statement}
+use Rattle.levels.proofs.dequant.seg_feature_active.Tie as tie
+
+returns : tie.Need-returns
+unfolding segFeatureActive
+returns c = rw (le-ltb _ _ (c .if1 .taken))
+
+returns-2 : tie.Need-returns-2
+unfolding segFeatureActive
+returns-2 c = rw (lt-ltb _ _ (c .before .if1 .left), le-ltb _ _ (c .if2 .taken))
+
+mul-at : tie.Need-mul-at
+mul-at c = search needs
+
+add-at : tie.Need-add-at
+add-at c = search needs
+
+element-copy-out-result : tie.Need-element-copy-out-result
+element-copy-out-result c = search needs
+
+returns-3 : tie.Need-returns-3
+unfolding segFeatureActive
+returns-3 c = rw (lt-ltb _ _ (c .before .before .if1 .left), lt-ltb _ _ (c .before .if2 .left))
+
+pub seg-feature-active-spec : {M : Type 1} → statement M
+seg-feature-active-spec =
+    tie.close (tie.spec returns returns-2 mul-at add-at element-copy-out-result returns-3)

@@ -1,0 +1,90 @@
+-- The level table of a frame: loop_filter_frame_init( ), 8.8.1.
+-- Assumes nothing.
+use mathlib.Core.Path.{_≡_, refl}
+use mathlib.Core.Bool.{Bool, true, false, cond, not, _&&_}
+use mathlib.Core.List.{List}
+use Prim.Native.Nat.{ℕ, _+_, _*_, _/_, _%_}
+use lib.Dec.{eqb, ltb}
+use lib.IntN.{ℤ, pos, negsuc, natAbs, _+ℤ_}
+use lib.ListN.{getD, replicate}
+use Rattle.base.specs.Filled.{filled}
+use Rattle.base.specs.Notation.{Clip3, shlZ}
+use Rattle.base.specs.Outcome.{Outcome, accepted, refused, refuse, Returned}
+use Rattle.levels.specs.Params.{segFeatureActive, featureData, resolvedFrom, defaultDeltas}
+use Rattle.levels.specs.declared.header.LoopFilterParams.{LoopFilterParams}
+use Rattle.levels.specs.declared.header.SegmentationParams.{SegmentationParams}
+use Rattle.levels.specs.declared.loop_filter.Deltas.{Deltas}
+use Rattle.levels.specs.declared.loop_filter.LevelAnswer.{LevelAnswer}
+use Rattle.levels.specs.declared.loop_filter.LevelAnswer.the-variants.{Done, Level}
+use Rattle.levels.specs.declared.loop_filter.Lookup.{Lookup}
+use Rattle.levels.specs.declared.loop_filter.Lookup.the-variants.{Found, Nothing}
+
+-- Clip3( 0, MAX_LOOP_FILTER, v ), as a number
+unfoldable pub clippedLevel : ℤ → ℕ
+clippedLevel v = natAbs (Clip3 (pos 0) (pos 63) v)
+
+-- nShift = loop_filter_level >> 5: the frame's level, for every segment
+abbrev pub nShift : LoopFilterParams → ℕ
+nShift lf = lf .level / 32
+
+-- steps 1 and 2: lvlSeg. Feature 1 is SEG_LVL_ALT_L.
+unfoldable pub lvlSeg : LoopFilterParams → SegmentationParams → ℕ → ℕ
+lvlSeg lf seg segment =
+    cond (segFeatureActive seg segment 1)
+    (clippedLevel
+    (cond (seg .«abs_or_delta_update») (featureData seg segment 1) (featureData seg segment 1 +ℤ pos (lf .level))))
+    (lf .level)
+
+-- step 4, with the deltas that hold: the intra entry, and the entry of a reference and a mode type
+unfoldable pub intraLvl : LoopFilterParams → Deltas → ℕ → ℕ
+intraLvl lf deltas lvl = clippedLevel (pos lvl +ℤ shlZ (getD (deltas .refs) 0 (pos 0)) (nShift lf))
+
+unfoldable pub interLvl : LoopFilterParams → Deltas → ℕ → ℕ → ℕ → ℕ
+interLvl lf deltas lvl ref mode =
+    clippedLevel
+    (pos lvl +ℤ shlZ (getD (deltas .refs) ref (pos 0)) (nShift lf) +ℤ shlZ (getD (deltas .modes) mode (pos 0)) (nShift lf))
+
+-- the standard's entry of a segment whose level is lvl. Intra blocks have mode type 0, and the standard has one entry for them.
+unfoldable pub standardLvl : LoopFilterParams → Deltas → ℕ → ℕ → ℕ → ℕ
+standardLvl lf deltas lvl ref mode =
+    cond (lf .«delta_enabled») (cond (eqb ref 0) (intraLvl lf deltas lvl) (interLvl lf deltas lvl ref mode)) lvl
+
+-- document 01's entry, which follows the Rust. Step 3 tests delta_update, and what it leaves is 0; step 4 sets all entries
+-- but that of intra and mode type 1.
+unfoldable pub entryLvl : LoopFilterParams → Deltas → ℕ → ℕ → ℕ → ℕ
+entryLvl lf deltas lvl ref mode =
+    cond (lf .«delta_enabled» && not (eqb ref 0 && not (eqb mode 0)))
+    (cond (eqb ref 0) (intraLvl lf deltas lvl) (interLvl lf deltas lvl ref mode))
+    (cond (lf .«delta_update») 0 lvl)
+
+-- where the flat table holds an entry
+abbrev pub levelAt : ℕ → ℕ → ℕ → ℕ
+levelAt segment ref mode = segment * 8 + ref * 2 + mode
+
+-- the entry at place k of the table
+unfoldable pub lvlAtPlace : LoopFilterParams → SegmentationParams → Deltas → ℕ → ℕ
+lvlAtPlace lf seg deltas k = entryLvl lf deltas (lvlSeg lf seg (k / 8)) (k % 8 / 2) (k % 2)
+
+abbrev pub zeroLevels : List ℕ
+zeroLevels = replicate 64 0
+
+-- LvlLookup, or refusal 6 for a frame level above 63
+unfoldable pub frameInit : LoopFilterParams → SegmentationParams → Deltas → Outcome (List ℕ)
+frameInit lf seg deltas = refuse (ltb 63 (lf .level)) 6 0 (accepted (filled (lvlAtPlace lf seg deltas) 64 zeroLevels))
+
+-- document 01's operation: absent deltas are the defaults
+unfoldable pub levelTable : LoopFilterParams → SegmentationParams → Outcome (List ℕ)
+levelTable lf seg = frameInit lf seg (resolvedFrom defaultDeltas lf)
+
+-- document 01's number and place for each answer
+abbrev pub returnedOf : LevelAnswer → Returned
+returnedOf Done = record { number = 0; place = 0 }
+returnedOf Level = record { number = 6; place = 0 }
+
+-- LvlLookup[ segment ][ ref ][ mode ], where there is such an entry
+unfoldable pub lookupOf : List ℕ → ℕ → ℤ → ℕ → Lookup
+lookupOf levels segment ref mode = within ref
+  where
+    within : ℤ → Lookup
+    within (pos r) = cond (ltb segment 8 && ltb mode 2 && ltb r 4) (Found (getD levels (levelAt segment r mode) 0)) Nothing
+    within (negsuc r) = Nothing

@@ -1,0 +1,4 @@
+pub mod Params
+pub mod Levels
+pub mod Strength
+pub mod StrengthLaws

@@ -1,0 +1,105 @@
+// The strength of a filter level (8.8.4), in the order of the Rust's adaptive_filter_strength.rs.
+ghost use mathlib.Core.Path.{_≡_};
+ghost use Prim.Native.Nat.{_≤_};
+ghost use Rattle.levels.specs.Strength.{modeType, limitOf, strengthOf, strengthFor, outcomeOf};
+
+pub const NEARESTMV: u8 = 10;
+pub const NEARMV: u8 = 11;
+pub const ZEROMV: u8 = 12;
+pub const NEWMV: u8 = 13;
+
+// What the line filter is set by.
+pub struct FilterStrength {
+    pub lvl: u8,
+    pub limit: u8,
+    pub blimit: u8,
+    pub thresh: u8,
+}
+
+pub enum StrengthAnswer {
+    Done(FilterStrength),
+    Sharpness,
+    Level,
+}
+
+// The limits of all levels at all sharpnesses, at sharpness times 64 plus level.
+const LIMITS: [u8; 512] = [
+    1, 1, 2, 3, 4, 5, 6, 7, 8, 9, 10, 11, 12, 13, 14, 15,
+    16, 17, 18, 19, 20, 21, 22, 23, 24, 25, 26, 27, 28, 29, 30, 31,
+    32, 33, 34, 35, 36, 37, 38, 39, 40, 41, 42, 43, 44, 45, 46, 47,
+    48, 49, 50, 51, 52, 53, 54, 55, 56, 57, 58, 59, 60, 61, 62, 63,
+    1, 1, 1, 1, 2, 2, 3, 3, 4, 4, 5, 5, 6, 6, 7, 7,
+    8, 8, 8, 8, 8, 8, 8, 8, 8, 8, 8, 8, 8, 8, 8, 8,
+    8, 8, 8, 8, 8, 8, 8, 8, 8, 8, 8, 8, 8, 8, 8, 8,
+    8, 8, 8, 8, 8, 8, 8, 8, 8, 8, 8, 8, 8, 8, 8, 8,
+    1, 1, 1, 1, 2, 2, 3, 3, 4, 4, 5, 5, 6, 6, 7, 7,
+    7, 7, 7, 7, 7, 7, 7, 7, 7, 7, 7, 7, 7, 7, 7, 7,
+    7, 7, 7, 7, 7, 7, 7, 7, 7, 7, 7, 7, 7, 7, 7, 7,
+    7, 7, 7, 7, 7, 7, 7, 7, 7, 7, 7, 7, 7, 7, 7, 7,
+    1, 1, 1, 1, 2, 2, 3, 3, 4, 4, 5, 5, 6, 6, 6, 6,
+    6, 6, 6, 6, 6, 6, 6, 6, 6, 6, 6, 6, 6, 6, 6, 6,
+    6, 6, 6, 6, 6, 6, 6, 6, 6, 6, 6, 6, 6, 6, 6, 6,
+    6, 6, 6, 6, 6, 6, 6, 6, 6, 6, 6, 6, 6, 6, 6, 6,
+    1, 1, 1, 1, 2, 2, 3, 3, 4, 4, 5, 5, 5, 5, 5, 5,
+    5, 5, 5, 5, 5, 5, 5, 5, 5, 5, 5, 5, 5, 5, 5, 5,
+    5, 5, 5, 5, 5, 5, 5, 5, 5, 5, 5, 5, 5, 5, 5, 5,
+    5, 5, 5, 5, 5, 5, 5, 5, 5, 5, 5, 5, 5, 5, 5, 5,
+    1, 1, 1, 1, 1, 1, 1, 1, 2, 2, 2, 2, 3, 3, 3, 3,
+    4, 4, 4, 4, 4, 4, 4, 4, 4, 4, 4, 4, 4, 4, 4, 4,
+    4, 4, 4, 4, 4, 4, 4, 4, 4, 4, 4, 4, 4, 4, 4, 4,
+    4, 4, 4, 4, 4, 4, 4, 4, 4, 4, 4, 4, 4, 4, 4, 4,
+    1, 1, 1, 1, 1, 1, 1, 1, 2, 2, 2, 2, 3, 3, 3, 3,
+    3, 3, 3, 3, 3, 3, 3, 3, 3, 3, 3, 3, 3, 3, 3, 3,
+    3, 3, 3, 3, 3, 3, 3, 3, 3, 3, 3, 3, 3, 3, 3, 3,
+    3, 3, 3, 3, 3, 3, 3, 3, 3, 3, 3, 3, 3, 3, 3, 3,
+    1, 1, 1, 1, 1, 1, 1, 1, 2, 2, 2, 2, 2, 2, 2, 2,
+    2, 2, 2, 2, 2, 2, 2, 2, 2, 2, 2, 2, 2, 2, 2, 2,
+    2, 2, 2, 2, 2, 2, 2, 2, 2, 2, 2, 2, 2, 2, 2, 2,
+    2, 2, 2, 2, 2, 2, 2, 2, 2, 2, 2, 2, 2, 2, 2, 2,
+];
+
+// Takes any mode: 1 for those that predict a motion vector.
+pub fn mode_to_mode_type(mode: u8) -> usize
+    ensures { λ r. ⌜ r ≡ modeType mode ⌝ }
+{
+    if (mode == NEARESTMV) | (mode == NEARMV) | (mode == NEWMV) {
+        1
+    } else {
+        0
+    }
+}
+
+fn limit_unchecked(lvl: u8, sharpness: u8) -> u8
+    requires { ⌜ (lvl ≤ 63) × (sharpness ≤ 7) ⌝ }
+    ensures { λ r. ⌜ r ≡ limitOf lvl sharpness ⌝ }
+{
+    let at = sharpness as usize * 64 + lvl as usize;
+    LIMITS[at]
+}
+
+// The work without the tests, for a caller that has made them.
+pub fn strength_unchecked(lvl: u8, sharpness: u8) -> FilterStrength
+    requires { ⌜ (lvl ≤ 63) × (sharpness ≤ 7) ⌝ }
+    ensures { λ r. ⌜ r ≡ strengthOf lvl sharpness ⌝ }
+{
+    let limit = limit_unchecked(lvl, sharpness);
+    FilterStrength {
+        lvl,
+        limit,
+        blimit: 2 * (lvl + 2) + limit,
+        thresh: lvl / 16,
+    }
+}
+
+// The strength of a level, or the refusal of a sharpness above 7 or a level above 63.
+pub fn strength_for_level(lvl: u8, sharpness: u8) -> StrengthAnswer
+    ensures { λ r. ⌜ outcomeOf r ≡ strengthFor lvl sharpness ⌝ }
+{
+    if 7 < sharpness {
+        return StrengthAnswer::Sharpness;
+    }
+    if 63 < lvl {
+        return StrengthAnswer::Level;
+    }
+    StrengthAnswer::Done(strength_unchecked(lvl, sharpness))
+}

@@ -1,0 +1,222 @@
+// The level table of a frame (8.8.1), in the order of the Rust's loop_filter.rs.
+ghost use mathlib.Core.Path.{_≡_};
+ghost use Prim.Native.Nat.{_+_, _*_, _/_, _≤_, _<_};
+ghost use lib.IntN.{pos, _+ℤ_};
+ghost use lib.ListN.{getD};
+ghost use lib.Signed.{mag};
+ghost use Rattle.base.specs.Filled.{filled};
+ghost use Rattle.base.specs.Notation.{shlZ};
+ghost use Rattle.base.specs.Outcome.{held, returned};
+ghost use Rattle.levels.specs.Params.{resolvedDelta, resolvedFrom, defaultDeltas};
+ghost use Rattle.levels.specs.Levels.{clippedLevel, nShift, lvlSeg, entryLvl, lvlAtPlace, zeroLevels, frameInit, levelTable, returnedOf, lookupOf};
+use crate::dequant::seg_feature_active;
+use crate::header::Delta;
+use crate::header::LoopFilterParams;
+use crate::header::SegmentationParams;
+
+// The segmentation feature that carries a level.
+pub const SEG_LVL_ALT_L: usize = 1;
+
+// LvlLookup[ segment ][ ref ][ mode ], flat: at segment times 8 plus reference times 2 plus mode type.
+pub struct LvlLookup {
+    pub levels: [u8; 64],
+}
+
+// What stands in a table: a level, or nothing where there is no such entry.
+pub enum Lookup {
+    Found(u8),
+    Nothing,
+}
+
+impl LvlLookup {
+    pub const MAX_SEGMENTS: usize = 8;
+    pub const MAX_REF_FRAMES: usize = 4;
+    pub const MAX_MODE_LF_DELTAS: usize = 2;
+    pub const MAX_LOOP_FILTER: u8 = 63;
+
+    pub fn zeros() -> Self
+        ensures { λ r. ⌜ r .levels ≡ zeroLevels ⌝ }
+    {
+        LvlLookup { levels: [0u8; 64] }
+    }
+
+    // Takes any segment, reference and mode type.
+    pub fn get(self, segment_id: usize, ref_frame: i32, mode: usize) -> Lookup
+        ensures { λ r. ⌜ r ≡ lookupOf (self .levels) «segment_id» «ref_frame» mode ⌝ }
+    {
+        if Self::MAX_SEGMENTS <= segment_id {
+            return Lookup::Nothing;
+        }
+        if Self::MAX_MODE_LF_DELTAS <= mode {
+            return Lookup::Nothing;
+        }
+        if ref_frame < 0 {
+            return Lookup::Nothing;
+        }
+        let r = ref_frame as usize;
+        if Self::MAX_REF_FRAMES <= r {
+            return Lookup::Nothing;
+        }
+        let at = segment_id * 8 + r * 2 + mode;
+        Lookup::Found(self.levels[at])
+    }
+}
+
+// The deltas that hold in a frame.
+pub struct Deltas {
+    pub refs: [i8; 4],
+    pub modes: [i8; 2],
+}
+
+fn resolved(before: i8, delta: Delta) -> i8
+    ensures { λ r. ⌜ r ≡ resolvedDelta before delta ⌝ }
+{
+    if delta.present { delta.value } else { before }
+}
+
+// The header's deltas, with the defaults of setup_past_independence( ) for those that are absent.
+pub fn resolve_lf_deltas(lf: LoopFilterParams) -> Deltas
+    ensures { λ r. ⌜ r ≡ resolvedFrom defaultDeltas lf ⌝ }
+{
+    let intra = resolved(1, lf.ref_deltas[0]);
+    let last = resolved(0, lf.ref_deltas[1]);
+    let golden = resolved(-1, lf.ref_deltas[2]);
+    let altref = resolved(-1, lf.ref_deltas[3]);
+    let zero_mv = resolved(0, lf.mode_deltas[0]);
+    let other_mv = resolved(0, lf.mode_deltas[1]);
+    Deltas {
+        refs: [intra, last, golden, altref],
+        modes: [zero_mv, other_mv],
+    }
+}
+
+// Clip3( 0, MAX_LOOP_FILTER, v ).
+fn clip_level(v: i32) -> u8
+    ensures { λ r. ⌜ (r ≡ clippedLevel v) × (r ≤ 63) ⌝ }
+{
+    if v < 0 {
+        return 0;
+    }
+    if 63 < v {
+        return 63;
+    }
+    v as u8
+}
+
+fn widen(x: i16) -> i32
+    ensures { λ r. ⌜ (r ≡ x) × (mag r < 32768) ⌝ }
+{
+    x as i32
+}
+
+// delta << nShift, where nShift is 0 or 1.
+fn scaled(delta: i8, level: u8) -> i32
+    requires { ⌜ level ≤ 63 ⌝ }
+    ensures { λ r. ⌜ (r ≡ shlZ delta (level / 32)) × (mag r < 256) ⌝ }
+{
+    let d = delta as i32;
+    if level < 32 { d } else { d * 2 }
+}
+
+fn clipped_sum(lvl: u8, x: i32) -> u8
+    requires { ⌜ mag x < 65536 ⌝ }
+    ensures { λ r. ⌜ (r ≡ clippedLevel (pos lvl +ℤ x)) × (r ≤ 63) ⌝ }
+{
+    clip_level(lvl as i32 + x)
+}
+
+fn segment_level(lf: LoopFilterParams, seg: SegmentationParams, segment: usize) -> u8
+    requires { ⌜ (lf .level ≤ 63) × (segment < 8) ⌝ }
+    ensures { λ r. ⌜ (r ≡ lvlSeg lf seg segment) × (r ≤ 63) ⌝ }
+{
+    let level = lf.level;
+    if seg_feature_active(seg, segment, SEG_LVL_ALT_L) {
+        let at = segment * 4 + SEG_LVL_ALT_L;
+        let datum = widen(seg.feature_data[at]);
+        if seg.abs_or_delta_update {
+            return clip_level(datum);
+        }
+        return clipped_sum(level, datum);
+    }
+    level
+}
+
+// Steps 3 and 4 for one entry of a segment whose level is lvl.
+fn entry_level(lf: LoopFilterParams, deltas: Deltas, lvl: u8, reference: usize, mode: usize) -> u8
+    requires { ⌜ (lf .level ≤ 63) × (reference < 4) × (mode < 2) ⌝ }
+    ensures { λ r. ⌜ r ≡ entryLvl lf deltas lvl reference mode ⌝ }
+{
+    let level = lf.level;
+    if lf.delta_enabled {
+        let of_reference = scaled(deltas.refs[reference], level);
+        if reference != 0 {
+            let of_mode = scaled(deltas.modes[mode], level);
+            return clipped_sum(lvl, of_reference + of_mode);
+        }
+        if mode == 0 {
+            return clipped_sum(lvl, of_reference);
+        }
+    }
+    if lf.delta_update { 0 } else { lvl }
+}
+
+// The table with the eight entries of one more segment.
+fn with_segment(levels: [u8; 64], lf: LoopFilterParams, seg: SegmentationParams, deltas: Deltas, segment: usize) -> [u8; 64]
+    requires { ⌜ (lf .level ≤ 63) × (segment < 8) × (levels ≡ filled (lvlAtPlace lf seg deltas) (segment * 8) zeroLevels) ⌝ }
+    ensures { λ r. ⌜ r ≡ filled (lvlAtPlace lf seg deltas) (segment * 8 + 8) zeroLevels ⌝ }
+{
+    let lvl = segment_level(lf, seg, segment);
+    let mut out = levels;
+    for k in 0..8 {
+        out[segment * 8 + k] = entry_level(lf, deltas, lvl, k / 2, k % 2);
+    }
+    out
+}
+
+// The table of an accepted level.
+fn all_segments(lf: LoopFilterParams, seg: SegmentationParams, deltas: Deltas) -> [u8; 64]
+    requires { ⌜ lf .level ≤ 63 ⌝ }
+    ensures { λ r. ⌜ r ≡ filled (lvlAtPlace lf seg deltas) 64 zeroLevels ⌝ }
+{
+    let mut levels = LvlLookup::zeros().levels;
+    for segment in 0..8 {
+        let next = with_segment(levels, lf, seg, deltas, segment);
+        levels = next;
+    }
+    levels
+}
+
+pub enum LevelAnswer {
+    Done,
+    Level,
+}
+
+// The answer, with the table beside it: all zero where the frame level was refused.
+pub struct FrameInit {
+    pub answer: LevelAnswer,
+    pub table: LvlLookup,
+}
+
+// The level table for deltas that are resolved.
+pub fn loop_filter_frame_init(lf: LoopFilterParams, seg: SegmentationParams, deltas: Deltas) -> FrameInit
+    ensures { λ r. ⌜ (returnedOf (r .answer) ≡ returned (frameInit lf seg deltas)) × (r .table .levels ≡ held (frameInit lf seg deltas) zeroLevels) ⌝ }
+{
+    if LvlLookup::MAX_LOOP_FILTER < lf.level {
+        return FrameInit {
+            answer: LevelAnswer::Level,
+            table: LvlLookup::zeros(),
+        };
+    }
+    let levels = all_segments(lf, seg, deltas);
+    FrameInit {
+        answer: LevelAnswer::Done,
+        table: LvlLookup { levels },
+    }
+}
+
+// The level table of a frame: the header's deltas are resolved first.
+pub fn level_table(lf: LoopFilterParams, seg: SegmentationParams) -> FrameInit
+    ensures { λ r. ⌜ (returnedOf (r .answer) ≡ returned (levelTable lf seg)) × (r .table .levels ≡ held (levelTable lf seg) zeroLevels) ⌝ }
+{
+    loop_filter_frame_init(lf, seg, resolve_lf_deltas(lf))
+}

@@ -1,0 +1,15 @@
+//! What the differential tests, the benchmark and the vector maker share.
+
+pub mod cases;
+pub mod libvpx;
+pub mod random;
+#[cfg(oracle)]
+pub mod rust;
+pub mod vectors;
+
+use std::io::Write;
+
+/// Says a line also where the test harness captures what tests print.
+pub fn say(line: &str) {
+    let _ = writeln!(std::io::stderr(), "{line}");
+}

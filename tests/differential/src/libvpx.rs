@@ -1,0 +1,82 @@
+//! What libvpx computes: strength.tsv and the frames of quick.tar.xz.
+
+use crate::cases::{Case, LEVEL_40, SEG_LVL_ALT_L};
+use std::path::{Path, PathBuf};
+use std::process::Command;
+use std::{array, env, fs};
+
+/// An entry that is not compared.
+pub const OPEN: u8 = 255;
+
+pub struct Frame {
+    pub name: String,
+    pub case: Case,
+    pub levels: [u8; 64],
+}
+
+/// Where libvpx's vectors are, if they are at hand.
+pub fn folder() -> Option<PathBuf> {
+    let folder = env::var_os("SPRINGSPADE_VECTORS").map_or(
+        Path::new(env!("CARGO_MANIFEST_DIR")).join("../../../shared/vectors"),
+        PathBuf::from,
+    );
+    folder.is_dir().then_some(folder)
+}
+
+/// Sharpness, level, limit, blimit, thresh.
+pub fn strengths(folder: &Path) -> Vec<[u8; 5]> {
+    let text = fs::read_to_string(folder.join("strength.tsv")).unwrap();
+    let record = |line: &str| {
+        let fields: Vec<u8> = line.split('\t').map(|n| n.parse().unwrap()).collect();
+        fields.try_into().unwrap()
+    };
+    text.lines().skip(1).map(record).collect()
+}
+
+/// The frames by name, without those of filter level 0.
+pub fn frames(folder: &Path) -> Vec<Frame> {
+    let caller = (std::process::id(), std::thread::current().id());
+    let out = env::temp_dir().join(format!("springspade-{caller:?}"));
+    fs::create_dir_all(&out).unwrap();
+    let archive = folder.join("quick.tar.xz");
+    let tar = Command::new("tar").arg("xJf").arg(archive).arg("-C").arg(&out).status();
+    assert!(tar.unwrap().success());
+    let mut files: Vec<PathBuf> = fs::read_dir(&out).unwrap().map(|f| f.unwrap().path()).collect();
+    files.sort();
+    let frames = files.iter().filter_map(|file| frame(file)).collect();
+    fs::remove_dir_all(&out).unwrap();
+    frames
+}
+
+fn frame(file: &Path) -> Option<Frame> {
+    let name = file.file_name().unwrap().to_string_lossy().into_owned();
+    let bytes = fs::read(file).unwrap();
+    assert_eq!(&bytes[..8], b"VP9LFD02", "{name}");
+    let field = |k: usize| i32::from_le_bytes(bytes[8 + 4 * k..][..4].try_into().unwrap());
+    let flag = |k: usize| field(k) != 0;
+    if field(8) == 0 {
+        return None;
+    }
+    let mut case = Case {
+        level: field(8).try_into().unwrap(),
+        delta_enabled: flag(10),
+        delta_update: flag(11),
+        deltas: array::from_fn(|i| field(12 + i).try_into().unwrap()),
+        present: [true; 6],
+        seg_enabled: flag(18),
+        abs_or_delta_update: flag(19),
+        ..LEVEL_40
+    };
+    for segment in 0..8 {
+        case.feature_enabled[segment][SEG_LVL_ALT_L] = flag(20 + segment);
+        case.feature_data[segment][SEG_LVL_ALT_L] = field(28 + segment).try_into().unwrap();
+    }
+    let mut levels: [u8; 64] = bytes[200..264].try_into().unwrap();
+    if case.delta_enabled {
+        // libvpx never writes (segment, intra, mode type 1) then.
+        for segment in 0..8 {
+            levels[segment * 8 + 1] = OPEN;
+        }
+    }
+    Some(Frame { name, case, levels })
+}

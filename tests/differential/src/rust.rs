@@ -1,0 +1,35 @@
+//! The Rust's answers.
+
+use crate::cases::Case;
+use oracle::header::{LoopFilterParams, SegmentationParams};
+use oracle::loop_filter::{loop_filter_frame_init, resolve_lf_deltas};
+
+pub fn params(case: &Case) -> (LoopFilterParams, SegmentationParams) {
+    let lf = case.loop_filter();
+    let lf = LoopFilterParams {
+        level: lf.level,
+        sharpness: 0,
+        delta_enabled: lf.delta_enabled,
+        delta_update: lf.delta_update,
+        ref_deltas: lf.ref_deltas,
+        mode_deltas: lf.mode_deltas,
+    };
+    let seg = SegmentationParams {
+        enabled: case.seg_enabled,
+        update_map: false,
+        tree_probs: None,
+        temporal_update: false,
+        pred_prob: None,
+        update_data: true,
+        abs_or_delta_update: case.abs_or_delta_update,
+        feature_enabled: case.feature_enabled,
+        feature_data: case.feature_data,
+    };
+    (lf, seg)
+}
+
+pub fn level_table(lf: &LoopFilterParams, seg: &SegmentationParams) -> [u8; 64] {
+    let (ref_deltas, mode_deltas) = resolve_lf_deltas(lf);
+    let table = loop_filter_frame_init(lf, seg, ref_deltas, mode_deltas);
+    table.levels.as_flattened().as_flattened().try_into().unwrap()
+}
