@@ -1,14 +1,27 @@
 -- Laws of the level table's definitions, for its functions' proofs.
 -- Assumes nothing.
-use mathlib.Core.Path.{_≡_, refl, sym}
+use mathlib.Core.Path.{_≡_, refl, _∙_}
 use mathlib.Core.Bool.{true, false}
-use Prim.Native.Nat.{ℕ, _≤_, _<_}
+use mathlib.Core.List.{List}
+use Prim.Native.Nat.{ℕ, _+_, _*_, _/_, _^_, _≤_, _<_}
+use native.Mathlib.Nat.{zero-add}
 use native.Mathlib.Omega.{arith}
 use lib.Dec.{T}
 use lib.IntN.{ℤ, pos, negsuc, natAbs}
-use lib.Signed.{ltZ, nonNeg}
+use lib.Signed.{mag, ltZ, nonNeg}
+use mir.Facts.{toZ-ofZ}
+use mir.Syntax.{Width}
+use mir.Val.{hbits, toZ, ofZ}
+use Rattle.base.specs.Filled.{filled, filled-join, filled-same}
 use Rattle.base.specs.Notation.{Clip3, clip-below}
-use Rattle.levels.specs.Levels.{clippedLevel}
+use Rattle.levels.specs.Levels.{clippedLevel, lvlSeg, segmentLvl, placeLvl}
+use Rattle.levels.specs.declared.header.LoopFilterParams.{LoopFilterParams}
+use Rattle.levels.specs.declared.header.SegmentationParams.{SegmentationParams}
+use Rattle.levels.specs.declared.loop_filter.Deltas.{Deltas}
+
+-- a signed number is read back from its bits
+pub back : (w : Width) {z : ℤ} → mag z < 2 ^ hbits w → toZ w (ofZ w z) ≡ z
+back w h = toZ-ofZ (record { sfits = h })
 
 pub level-small : (v : ℤ) → clippedLevel v ≤ 63
 unfolding clippedLevel
@@ -32,3 +45,19 @@ not-negative (negsuc n) e = let z : _≡_ {A = ℕ} 0 1 = cc in absurd (contra z
   where
     contra : _≡_ {A = ℕ} 0 1 → ⊥
     contra z = omega arith
+
+-- an entry of a segment is the table's entry at its place
+same : (lf : LoopFilterParams) (seg : SegmentationParams) (deltas : Deltas) (segment k : ℕ) → k < 8 → segmentLvl lf deltas (lvlSeg lf seg segment) (segment * 8 + k) ≡ placeLvl lf seg deltas (segment * 8 + k)
+unfolding placeLvl
+same lf seg deltas segment k h = let e : (segment * 8 + k) / 8 ≡ segment = omega arith in rw e
+
+-- the segments before this one, and then its own eight entries
+pub segment-more : (lf : LoopFilterParams) (seg : SegmentationParams) (deltas : Deltas) (segment : ℕ) (l : List ℕ) → filled (segmentLvl lf deltas (lvlSeg lf seg segment)) (segment * 8) 8 (filled (placeLvl lf seg deltas) 0 (segment * 8) l) ≡ filled (placeLvl lf seg deltas) 0 ((segment + 1) * 8) l
+segment-more lf seg deltas segment l =
+    let place = placeLvl lf seg deltas in
+    let before = filled place 0 (segment * 8) l in
+    filled-same (segmentLvl lf deltas (lvlSeg lf seg segment)) place (segment * 8) 8 before (same lf seg deltas segment)
+    ∙ rw (zero-add (segment * 8), ends) at (filled-join place 0 (segment * 8) 8 l)
+  where
+    ends : segment * 8 + 8 ≡ (segment + 1) * 8
+    ends = omega arith

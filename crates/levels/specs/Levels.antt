@@ -5,8 +5,9 @@ use mathlib.Core.Bool.{Bool, true, false, cond, not, _&&_}
 use mathlib.Core.List.{List}
 use Prim.Native.Nat.{ℕ, _+_, _*_, _/_, _%_}
 use lib.Dec.{eqb, ltb}
-use lib.IntN.{ℤ, pos, negsuc, natAbs, _+ℤ_}
+use lib.IntN.{ℤ, pos, natAbs, _+ℤ_}
 use lib.ListN.{getD, replicate}
+use lib.Signed.{ltZ}
 use Rattle.base.specs.Filled.{filled}
 use Rattle.base.specs.Notation.{Clip3, shlZ}
 use Rattle.base.specs.Outcome.{Outcome, accepted, refused, refuse, Returned}
@@ -44,33 +45,38 @@ interLvl lf deltas lvl ref mode =
     clippedLevel
     (pos lvl +ℤ shlZ (getD (deltas .refs) ref (pos 0)) (nShift lf) +ℤ shlZ (getD (deltas .modes) mode (pos 0)) (nShift lf))
 
+abbrev pub deltaLvl : LoopFilterParams → Deltas → ℕ → ℕ → ℕ → ℕ
+deltaLvl lf deltas lvl ref mode = cond (eqb ref 0) (intraLvl lf deltas lvl) (interLvl lf deltas lvl ref mode)
+
 -- the standard's entry of a segment whose level is lvl. Intra blocks have mode type 0, and the standard has one entry for them.
 unfoldable pub standardLvl : LoopFilterParams → Deltas → ℕ → ℕ → ℕ → ℕ
-standardLvl lf deltas lvl ref mode =
-    cond (lf .«delta_enabled») (cond (eqb ref 0) (intraLvl lf deltas lvl) (interLvl lf deltas lvl ref mode)) lvl
+standardLvl lf deltas lvl ref mode = cond (lf .«delta_enabled») (deltaLvl lf deltas lvl ref mode) lvl
 
 -- document 01's entry, which follows the Rust. Step 3 tests delta_update, and what it leaves is 0; step 4 sets all entries
 -- but that of intra and mode type 1.
 unfoldable pub entryLvl : LoopFilterParams → Deltas → ℕ → ℕ → ℕ → ℕ
 entryLvl lf deltas lvl ref mode =
     cond (lf .«delta_enabled» && not (eqb ref 0 && not (eqb mode 0)))
-    (cond (eqb ref 0) (intraLvl lf deltas lvl) (interLvl lf deltas lvl ref mode))
+    (deltaLvl lf deltas lvl ref mode)
     (cond (lf .«delta_update») 0 lvl)
 
 -- where the flat table holds an entry
 abbrev pub levelAt : ℕ → ℕ → ℕ → ℕ
 levelAt segment ref mode = segment * 8 + ref * 2 + mode
 
--- the entry at place k of the table
-unfoldable pub lvlAtPlace : LoopFilterParams → SegmentationParams → Deltas → ℕ → ℕ
-lvlAtPlace lf seg deltas k = entryLvl lf deltas (lvlSeg lf seg (k / 8)) (k % 8 / 2) (k % 2)
+-- the entry at place k of the flat table, in a segment whose level is lvl
+unfoldable pub segmentLvl : LoopFilterParams → Deltas → ℕ → ℕ → ℕ
+segmentLvl lf deltas lvl k = entryLvl lf deltas lvl (k % 8 / 2) (k % 2)
+
+unfoldable pub placeLvl : LoopFilterParams → SegmentationParams → Deltas → ℕ → ℕ
+placeLvl lf seg deltas k = segmentLvl lf deltas (lvlSeg lf seg (k / 8)) k
 
 abbrev pub zeroLevels : List ℕ
 zeroLevels = replicate 64 0
 
 -- LvlLookup, or refusal 6 for a frame level above 63
 unfoldable pub frameInit : LoopFilterParams → SegmentationParams → Deltas → Outcome (List ℕ)
-frameInit lf seg deltas = refuse (ltb 63 (lf .level)) 6 0 (accepted (filled (lvlAtPlace lf seg deltas) 64 zeroLevels))
+frameInit lf seg deltas = refuse (ltb 63 (lf .level)) 6 0 (accepted (filled (placeLvl lf seg deltas) 0 64 zeroLevels))
 
 -- document 01's operation: absent deltas are the defaults
 unfoldable pub levelTable : LoopFilterParams → SegmentationParams → Outcome (List ℕ)
@@ -83,8 +89,7 @@ returnedOf Level = record { number = 6; place = 0 }
 
 -- LvlLookup[ segment ][ ref ][ mode ], where there is such an entry
 unfoldable pub lookupOf : List ℕ → ℕ → ℤ → ℕ → Lookup
-lookupOf levels segment ref mode = within ref
-  where
-    within : ℤ → Lookup
-    within (pos r) = cond (ltb segment 8 && ltb mode 2 && ltb r 4) (Found (getD levels (levelAt segment r mode) 0)) Nothing
-    within (negsuc r) = Nothing
+lookupOf levels segment ref mode =
+    cond (ltb segment 8 && ltb mode 2 && not (ltZ ref (pos 0)) && ltb (natAbs ref) 4)
+    (Found (getD levels (levelAt segment (natAbs ref) mode) 0))
+    Nothing

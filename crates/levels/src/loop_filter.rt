@@ -8,7 +8,7 @@ ghost use Rattle.base.specs.Filled.{filled};
 ghost use Rattle.base.specs.Notation.{shlZ};
 ghost use Rattle.base.specs.Outcome.{held, returned};
 ghost use Rattle.levels.specs.Params.{resolvedDelta, resolvedFrom, defaultDeltas};
-ghost use Rattle.levels.specs.Levels.{clippedLevel, nShift, lvlSeg, entryLvl, lvlAtPlace, zeroLevels, frameInit, levelTable, returnedOf, lookupOf};
+ghost use Rattle.levels.specs.Levels.{clippedLevel, nShift, lvlSeg, deltaLvl, entryLvl, segmentLvl, placeLvl, zeroLevels, frameInit, levelTable, returnedOf, lookupOf};
 use crate::dequant::seg_feature_active;
 use crate::header::Delta;
 use crate::header::LoopFilterParams;
@@ -30,8 +30,11 @@ pub enum Lookup {
 
 impl LvlLookup {
     pub const MAX_SEGMENTS: usize = 8;
+
     pub const MAX_REF_FRAMES: usize = 4;
+
     pub const MAX_MODE_LF_DELTAS: usize = 2;
+
     pub const MAX_LOOP_FILTER: u8 = 63;
 
     pub fn zeros() -> Self
@@ -118,6 +121,13 @@ fn scaled(delta: i8, level: u8) -> i32
     if level < 32 { d } else { d * 2 }
 }
 
+fn delta_sum(a: i32, b: i32) -> i32
+    requires { ⌜ (mag a < 256) × (mag b < 256) ⌝ }
+    ensures { λ r. ⌜ (r ≡ a +ℤ b) × (mag r < 512) ⌝ }
+{
+    a + b
+}
+
 fn clipped_sum(lvl: u8, x: i32) -> u8
     requires { ⌜ mag x < 65536 ⌝ }
     ensures { λ r. ⌜ (r ≡ clippedLevel (pos lvl +ℤ x)) × (r ≤ 63) ⌝ }
@@ -141,31 +151,42 @@ fn segment_level(lf: LoopFilterParams, seg: SegmentationParams, segment: usize) 
     level
 }
 
-// Steps 3 and 4 for one entry of a segment whose level is lvl.
+// Step 4 for one entry of a segment whose level is lvl.
+fn delta_level(lf: LoopFilterParams, deltas: Deltas, lvl: u8, reference: usize, mode: usize) -> u8
+    requires { ⌜ (lf .level ≤ 63) × (reference < 4) × (mode < 2) ⌝ }
+    ensures { λ r. ⌜ r ≡ deltaLvl lf deltas lvl reference mode ⌝ }
+{
+    let level = lf.level;
+    let of_reference = scaled(deltas.refs[reference], level);
+    if reference == 0 {
+        return clipped_sum(lvl, of_reference);
+    }
+    let of_mode = scaled(deltas.modes[mode], level);
+    clipped_sum(lvl, delta_sum(of_reference, of_mode))
+}
+
+// Steps 3 and 4. Step 4 leaves the entry of intra and mode type 1 as step 3 set it.
 fn entry_level(lf: LoopFilterParams, deltas: Deltas, lvl: u8, reference: usize, mode: usize) -> u8
     requires { ⌜ (lf .level ≤ 63) × (reference < 4) × (mode < 2) ⌝ }
     ensures { λ r. ⌜ r ≡ entryLvl lf deltas lvl reference mode ⌝ }
 {
-    let level = lf.level;
-    if lf.delta_enabled {
-        let of_reference = scaled(deltas.refs[reference], level);
-        if reference != 0 {
-            let of_mode = scaled(deltas.modes[mode], level);
-            return clipped_sum(lvl, of_reference + of_mode);
-        }
-        if mode == 0 {
-            return clipped_sum(lvl, of_reference);
-        }
+    if lf.delta_enabled & !((reference == 0) & (mode != 0)) {
+        return delta_level(lf, deltas, lvl, reference, mode);
     }
     if lf.delta_update { 0 } else { lvl }
 }
 
-// The table with the eight entries of one more segment.
-fn with_segment(levels: [u8; 64], lf: LoopFilterParams, seg: SegmentationParams, deltas: Deltas, segment: usize) -> [u8; 64]
-    requires { ⌜ (lf .level ≤ 63) × (segment < 8) × (levels ≡ filled (lvlAtPlace lf seg deltas) (segment * 8) zeroLevels) ⌝ }
-    ensures { λ r. ⌜ r ≡ filled (lvlAtPlace lf seg deltas) (segment * 8 + 8) zeroLevels ⌝ }
+// The table with the eight entries of a segment whose level is lvl.
+fn with_segment(
+    levels: [u8; 64],
+    lf: LoopFilterParams,
+    deltas: Deltas,
+    lvl: u8,
+    segment: usize,
+) -> [u8; 64]
+    requires { ⌜ (lf .level ≤ 63) × (segment < 8) ⌝ }
+    ensures { λ r. ⌜ r ≡ filled (segmentLvl lf deltas lvl) (segment * 8) 8 levels ⌝ }
 {
-    let lvl = segment_level(lf, seg, segment);
     let mut out = levels;
     for k in 0..8 {
         out[segment * 8 + k] = entry_level(lf, deltas, lvl, k / 2, k % 2);
@@ -173,14 +194,15 @@ fn with_segment(levels: [u8; 64], lf: LoopFilterParams, seg: SegmentationParams,
     out
 }
 
-// The table of an accepted level.
-fn all_segments(lf: LoopFilterParams, seg: SegmentationParams, deltas: Deltas) -> [u8; 64]
+// The table for a frame level that was tested.
+fn frame_init_unchecked(lf: LoopFilterParams, seg: SegmentationParams, deltas: Deltas) -> [u8; 64]
     requires { ⌜ lf .level ≤ 63 ⌝ }
-    ensures { λ r. ⌜ r ≡ filled (lvlAtPlace lf seg deltas) 64 zeroLevels ⌝ }
+    ensures { λ r. ⌜ r ≡ filled (placeLvl lf seg deltas) 0 64 zeroLevels ⌝ }
 {
     let mut levels = LvlLookup::zeros().levels;
     for segment in 0..8 {
-        let next = with_segment(levels, lf, seg, deltas, segment);
+        let lvl = segment_level(lf, seg, segment);
+        let next = with_segment(levels, lf, deltas, lvl, segment);
         levels = next;
     }
     levels
@@ -198,7 +220,11 @@ pub struct FrameInit {
 }
 
 // The level table for deltas that are resolved.
-pub fn loop_filter_frame_init(lf: LoopFilterParams, seg: SegmentationParams, deltas: Deltas) -> FrameInit
+pub fn loop_filter_frame_init(
+    lf: LoopFilterParams,
+    seg: SegmentationParams,
+    deltas: Deltas,
+) -> FrameInit
     ensures { λ r. ⌜ (returnedOf (r .answer) ≡ returned (frameInit lf seg deltas)) × (r .table .levels ≡ held (frameInit lf seg deltas) zeroLevels) ⌝ }
 {
     if LvlLookup::MAX_LOOP_FILTER < lf.level {
@@ -207,7 +233,7 @@ pub fn loop_filter_frame_init(lf: LoopFilterParams, seg: SegmentationParams, del
             table: LvlLookup::zeros(),
         };
     }
-    let levels = all_segments(lf, seg, deltas);
+    let levels = frame_init_unchecked(lf, seg, deltas);
     FrameInit {
         answer: LevelAnswer::Done,
         table: LvlLookup { levels },

@@ -2,7 +2,7 @@
 
 use crate::cases::Case;
 use oracle::header::{LoopFilterParams, SegmentationParams};
-use oracle::loop_filter::{loop_filter_frame_init, resolve_lf_deltas};
+use oracle::loop_filter::{LvlLookup, loop_filter_frame_init, resolve_lf_deltas};
 
 pub fn params(case: &Case) -> (LoopFilterParams, SegmentationParams) {
     let lf = case.loop_filter();
@@ -28,8 +28,13 @@ pub fn params(case: &Case) -> (LoopFilterParams, SegmentationParams) {
     (lf, seg)
 }
 
-pub fn level_table(lf: &LoopFilterParams, seg: &SegmentationParams) -> [u8; 64] {
+#[inline]
+pub fn lookup(lf: &LoopFilterParams, seg: &SegmentationParams) -> LvlLookup {
     let (ref_deltas, mode_deltas) = resolve_lf_deltas(lf);
-    let table = loop_filter_frame_init(lf, seg, ref_deltas, mode_deltas);
-    table.levels.as_flattened().as_flattened().try_into().unwrap()
+    loop_filter_frame_init(lf, seg, ref_deltas, mode_deltas)
+}
+
+pub fn level_table(case: &Case) -> [u8; 64] {
+    let (lf, seg) = params(case);
+    lookup(&lf, &seg).levels.as_flattened().as_flattened().try_into().unwrap()
 }

@@ -31,10 +31,7 @@ fn levels() -> Option<Vec<u8>> {
     let document = [LEVEL_40, SEGMENT_20, LEVEL_31, UPDATED_NOT_ENABLED];
     let mut cases = document.to_vec();
     cases.extend((0..388).map(|_| Case::random(&mut random)));
-    let accepted = cases.iter().flat_map(|case| {
-        let (lf, seg) = rust::params(case);
-        record(case, 0, &rust::level_table(&lf, &seg))
-    });
+    let accepted = cases.iter().flat_map(|case| record(case, 0, &rust::level_table(case)));
     let refused = [64, 65, 95, 96, 127, 128, 192, 255].map(|level| {
         let case = Case { level, ..Case::random(&mut random) };
         record(&case, 6, &[0; 64])

@@ -51,8 +51,7 @@ fn compare(tables: usize, seed: u64) -> Kinds {
     let mut kinds = Kinds::default();
     for _ in 0..tables {
         let case = Case::random(&mut random);
-        let (lf, seg) = rust::params(&case);
-        let expected = rust::level_table(&lf, &seg);
+        let expected = rust::level_table(&case);
         let mut levels = [200; 80];
         let returned = level_table_into(&case.lists(), &mut levels);
         assert_eq!(returned, Returned { number: 0, place: 0 }, "{case:?}");

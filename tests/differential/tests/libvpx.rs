@@ -22,6 +22,7 @@ fn level_tables_equal() {
         return say("passed over: libvpx's vectors are not at hand");
     };
     let frames = libvpx::frames(&folder);
+    assert_eq!(frames.len(), 144);
     let mut entries = 0;
     for frame in &frames {
         let case = &frame.case;

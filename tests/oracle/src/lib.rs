@@ -161,9 +161,7 @@ pub mod intra {
     pub struct Plane;
 
     #[derive(Debug, Clone, Copy)]
-    pub enum PredMode {
-        Dc,
-    }
+    pub struct PredMode;
 
     pub fn predict_intra(
         _: &mut Plane,

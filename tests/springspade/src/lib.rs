@@ -116,6 +116,7 @@ pub fn level_table(lf: &LoopFilter, seg: &Segmentation) -> Result<[u8; 64], Refu
 }
 
 /// The level table into the first 64 of `levels`.
+#[inline]
 pub fn level_table_into(lists: &Lists, levels: &mut [u8]) -> Returned {
     // SAFETY: each pointer goes with the length of its own slice.
     unsafe {
@@ -148,6 +149,7 @@ pub struct Strength {
 }
 
 /// The strength of a level and sharpness.
+#[inline]
 pub fn strength(lvl: u8, sharpness: u8) -> Result<Strength, Refused> {
     let (returned, strength) = strength_returned(lvl, sharpness);
     returned.accepted()?;
@@ -155,6 +157,7 @@ pub fn strength(lvl: u8, sharpness: u8) -> Result<Strength, Refused> {
 }
 
 /// The same as the C function gives it, with the three values also on refusal.
+#[inline]
 pub fn strength_returned(lvl: u8, sharpness: u8) -> (Returned, Strength) {
     let c::Strength { number, place, limit, blimit, thresh } =
         c::springspade_strength(lvl, sharpness);
@@ -162,6 +165,7 @@ pub fn strength_returned(lvl: u8, sharpness: u8) -> (Returned, Strength) {
 }
 
 /// 1 for NEARESTMV, NEARMV and NEWMV, else 0.
+#[inline]
 pub fn mode_type(mode: u8) -> usize {
     c::springspade_mode_type(mode)
 }

@@ -13,7 +13,9 @@ fn main() {
 #[cfg(oracle)]
 mod rows {
     use differential::{cases::*, rust};
+    use oracle::adaptive_filter_strength::FilterStrength;
     use oracle::superblock_loop_filter::hook_strength;
+    use springspade::{level_table_into, strength_returned};
     use std::{hint::black_box, time::Instant};
 
     const RUNS: usize = 2_000;
@@ -30,8 +32,9 @@ mod rows {
         table("level table, absolute segments", &absolute);
         table("level table, segments added", &added);
         // Ours is always a call; the Rust's may be put in line.
-        strengths("strength, the Rust called", rust_called);
-        strengths("strength, the Rust in line", rust_in_line);
+        let ours = || all(strength_returned);
+        row("strength, the Rust called", 512, ours, || all(called));
+        row("strength, the Rust in line", 512, ours, || all(hook_strength));
     }
 
     fn table(name: &str, case: &Case) {
@@ -40,48 +43,27 @@ mod rows {
         let mut levels = [0; 64];
         let ours = || {
             for _ in 0..CALLS {
-                black_box(springspade::level_table_into(black_box(&lists), black_box(&mut levels)));
+                black_box(level_table_into(black_box(&lists), black_box(&mut levels)));
             }
         };
         let (lf, seg) = rust::params(case);
         let rust = || {
             for _ in 0..CALLS {
-                black_box(rust::level_table(black_box(&lf), black_box(&seg)));
+                black_box(rust::lookup(black_box(&lf), black_box(&seg)));
             }
         };
         row(name, CALLS, ours, rust);
     }
 
-    fn strengths(name: &str, rust: fn()) {
-        let ours = || {
-            for sharpness in 0..8 {
-                for lvl in 0..64 {
-                    let (lvl, sharpness) = black_box((lvl, sharpness));
-                    black_box(springspade::strength_returned(lvl, sharpness));
-                }
-            }
-        };
-        row(name, 512, ours, rust);
+    #[inline(never)]
+    fn called(lvl: u8, sharpness: u8) -> FilterStrength {
+        hook_strength(lvl, sharpness)
     }
 
-    fn rust_called() {
-        #[inline(never)]
-        fn called(lvl: u8, sharpness: u8) -> oracle::adaptive_filter_strength::FilterStrength {
-            hook_strength(lvl, sharpness)
-        }
+    fn all<T>(strength: impl Fn(u8, u8) -> T) {
         for sharpness in 0..8 {
             for lvl in 0..64 {
-                let (lvl, sharpness) = black_box((lvl, sharpness));
-                black_box(called(lvl, sharpness));
-            }
-        }
-    }
-
-    fn rust_in_line() {
-        for sharpness in 0..8 {
-            for lvl in 0..64 {
-                let (lvl, sharpness) = black_box((lvl, sharpness));
-                black_box(hook_strength(lvl, sharpness));
+                black_box(strength(black_box(lvl), black_box(sharpness)));
             }
         }
     }

@@ -30,9 +30,10 @@ cast-result : tie.Need-cast-result
 cast-result c =
     let fits = c .before .before .fits .v in
     let same = level-kept (c .before .before .args .v) (low fits (c .before .if1 .left)) (high fits (c .if2 .left)) in
-    rw (toZ-ofZ fits)
-    ( not-negative (c .before .before .args .v) (low fits (c .before .if1 .left))
-    , record { fits = omega (arith, same, level-small (c .before .before .args .v)) })
+    rw (toZ-ofZ fits) (
+      not-negative (c .before .before .args .v) (low fits (c .before .if1 .left)),
+      record { fits = omega (arith, same, level-small (c .before .before .args .v)) },
+    )
 
 returns-3 : tie.Need-returns-3
 returns-3 c =

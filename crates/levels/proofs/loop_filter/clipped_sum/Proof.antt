@@ -32,10 +32,11 @@ clip-level-requires c κs = search needs
 returns : tie.Need-returns
 returns c =
     let a = c .before in
-    rw
-    ( level-is (a .args .lvl) (a .fits .lvl .fits)
-    , toZ-ofZ (a .fits .x)
-    , toZ-ofZ (sum-fits (a .args .lvl) (a .args .x) (a .fits .lvl .fits) (a .pre)) )
+    rw (
+      level-is (a .args .lvl) (a .fits .lvl .fits),
+      toZ-ofZ (a .fits .x),
+      toZ-ofZ (sum-fits (a .args .lvl) (a .args .x) (a .fits .lvl .fits) (a .pre)),
+    )
     at (c .clip-level .ensures)
 
 pub clipped-sum-spec : {M : Type 1} → statement M

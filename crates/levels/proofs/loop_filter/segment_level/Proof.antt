@@ -1,56 +1,56 @@
 use borrow.Author.Needs.{needs}
+use mathlib.Core.Path.{refl, sym, _∙_}
+use native.Mathlib.Omega.{arith}
+use lib.IntN.{+ℤ-comm}
+use mir.Syntax.{w16, w32}
+use Rattle.levels.specs.Levels.{lvlSeg}
+use Rattle.levels.proofs.LevelLaws.{back}
 use Rattle.levels.proofs.loop_filter.segment_level.Statement.{statement}
 use Rattle.levels.proofs.loop_filter.segment_level.Tie as tie
-use Rattle.levels.proofs.loop_filter.segment_level.Reads as reads
-use Rattle.levels.proofs.loop_filter.segment_level.Lts as lts
-use Rattle.levels.proofs.dequant.seg_feature_active.Reads as seg-feature-active-reads
-use Rattle.levels.proofs.loop_filter.clip_level.Reads as clip-level-reads
-use Rattle.levels.proofs.loop_filter.clipped_sum.Reads as clipped-sum-reads
-use Rattle.levels.proofs.loop_filter.widen.Reads as widen-reads
 
--- src/loop_filter.rt:133:8
 seg-feature-active-requires : tie.Need-seg-feature-active-requires
 seg-feature-active-requires c κs = search needs
 
--- src/loop_filter.rt:134:18
 mul-at : tie.Need-mul-at
 mul-at c = search needs
 
--- src/loop_filter.rt:134:18
 add-at : tie.Need-add-at
 add-at c = search needs
 
--- src/loop_filter.rt:135:27
 mul-widen : tie.Need-mul-widen
 mul-widen c = search needs
 
--- src/loop_filter.rt:135:27
 element-copy-out-widen : tie.Need-element-copy-out-widen
 element-copy-out-widen c = search needs
 
--- src/loop_filter.rt:135:13
 widen-requires : tie.Need-widen-requires
 widen-requires c κs = search needs
 
--- src/loop_filter.rt:137:13
 clip-level-requires : tie.Need-clip-level-requires
 clip-level-requires c κs = search needs
 
--- src/loop_filter.rt:137:13
 returns : tie.Need-returns
-returns c = ?
+unfolding lvlSeg
+returns c =
+    let a = c .before .before .before .before .before in
+    let datum = rw (back w16 (c .before .before .before .widen-arg .given)) at (c .before .before .widen .ensures .0) in
+    rw (sym (a .seg-feature-active .ensures) ∙ c .before .before .before .before .if1 .taken, c .before .if2 .taken)
+    (rw (back w32 (c .before .before .widen .ok), datum) at (c .clip-level .ensures))
 
--- src/loop_filter.rt:139:9
 clipped-sum-requires : tie.Need-clipped-sum-requires
-clipped-sum-requires c κs = ?
+clipped-sum-requires c κs = rw (back w32 (c .before .widen .ok)) (omega (arith, c .before .widen .ensures))
 
--- src/loop_filter.rt:139:9
 returns-2 : tie.Need-returns-2
-returns-2 c = ?
+unfolding lvlSeg
+returns-2 c =
+    let a = c .before .before .before .before .before in
+    let datum = rw (back w16 (c .before .before .before .widen-arg .given)) at (c .before .before .widen .ensures .0) in
+    rw (sym (a .seg-feature-active .ensures) ∙ c .before .before .before .before .if1 .taken, c .before .if2 .left, +ℤ-comm)
+    (rw (back w32 (c .before .before .widen .ok), datum) at (c .clipped-sum .ensures))
 
--- src/loop_filter.rt:128:1
 returns-3 : tie.Need-returns-3
-returns-3 c = ?
+unfolding lvlSeg
+returns-3 c = rw (sym (c .before .seg-feature-active .ensures) ∙ c .if1 .left) (refl, c .before .before .pre .0)
 
 pub segment-level-spec : {M : Type 1} → statement M
 segment-level-spec =

@@ -1,55 +1,66 @@
+use borrow.Author.Needs.{needs}
+use mathlib.Core.Path.{_≡_}
+use native.Mathlib.Omega.{arith}
+use Prim.Native.Nat.{ℕ, _+_, _-_, _*_, _/_, _%_, _≤_, _<_}
+use Rattle.base.specs.Filled.{filled, filled-none, filled-more}
+use Rattle.levels.specs.Levels.{entryLvl, segmentLvl}
+use Rattle.levels.specs.declared.header.LoopFilterParams.{LoopFilterParams}
+use Rattle.levels.specs.declared.loop_filter.Deltas.{Deltas}
 use Rattle.levels.proofs.loop_filter.with_segment.Statement.{statement}
 use Rattle.levels.proofs.loop_filter.with_segment.Tie as tie
-use Rattle.levels.proofs.loop_filter.with_segment.Reads as reads
-use Rattle.levels.proofs.loop_filter.with_segment.Lts as lts
-use Rattle.levels.proofs.loop_filter.entry_level.Reads as entry-level-reads
-use Rattle.levels.proofs.loop_filter.segment_level.Reads as segment-level-reads
 
 abbrev Inv-loop : tie.InvT-loop
-Inv-loop lf deltas segment lvl out₀ k₀ out k = ?
+Inv-loop lf deltas lvl segment out₀ k₀ out k = (k ≤ 8) × (out ≡ filled (segmentLvl lf deltas lvl) (segment * 8) k out₀)
 
 abbrev μ-loop : tie.MeasureT-loop
-μ-loop lf deltas segment lvl out₀ k₀ out k = ?
+μ-loop lf deltas lvl segment out₀ k₀ out k = 8 - k
 
--- src/loop_filter.rt:168:9
-segment-level-requires : tie.Need-segment-level-requires Inv-loop μ-loop
-segment-level-requires c κs = ?
+-- the entry k of a segment, at its place in the table
+placed : (lf : LoopFilterParams) (deltas : Deltas) (lvl segment k : ℕ) → k < 8 → entryLvl lf deltas lvl (k / 2) (k % 2) ≡ segmentLvl lf deltas lvl (segment * 8 + k)
+unfolding segmentLvl
+placed lf deltas lvl segment k h = rw (reference, mode)
+  where
+    reference : (segment * 8 + k) % 8 / 2 ≡ k / 2
+    reference = omega arith
 
--- src/loop_filter.rt:170:5
+    mode : (segment * 8 + k) % 2 ≡ k % 2
+    mode = omega arith
+
 loop-holds : tie.Need-loop-holds Inv-loop μ-loop
-loop-holds c = ?
+loop-holds c = (search needs, filled-none _ _ _)
 
--- src/loop_filter.rt:171:32
 entry-level-requires : tie.Need-entry-level-requires Inv-loop μ-loop
-entry-level-requires c κs = ?
+entry-level-requires c κs = search needs
 
--- src/loop_filter.rt:171:13
 mul-out : tie.Need-mul-out Inv-loop μ-loop
-mul-out c = ?
+mul-out c = search needs
 
--- src/loop_filter.rt:171:13
 add-out : tie.Need-add-out Inv-loop μ-loop
-add-out c = ?
+add-out c = search needs
 
--- src/loop_filter.rt:171:9
 array-write-out : tie.Need-array-write-out Inv-loop μ-loop
-array-write-out c = ?
+array-write-out c = search needs
 
--- src/loop_filter.rt:170:9
 add-k : tie.Need-add-k Inv-loop μ-loop
-add-k c = ?
+add-k c = search needs
 
--- src/loop_filter.rt:170:5
 loop-less : tie.Need-loop-less Inv-loop μ-loop
-loop-less c = ?
+loop-less c = search needs
 
--- src/loop_filter.rt:170:5
 loop-again : tie.Need-loop-again Inv-loop μ-loop
-loop-again c = ?
+loop-again c =
+    let a = c .before .before .before .args in
+    let k = c .before .before .loop .k in (
+      search needs,
+      rw
+          (c .before .before .loop .inv .1, c .entry-level .ensures, placed (a .lf) (a .deltas) (a .lvl) (a .segment) k (c .before .loop-test .taken))
+          (filled-more (segmentLvl (a .lf) (a .deltas) (a .lvl)) (a .segment * 8) k (a .levels)),
+    )
 
--- src/loop_filter.rt:164:1
 returns : tie.Need-returns Inv-loop μ-loop
-returns c = ?
+returns c =
+    let all : c .before .loop .k ≡ 8 = omega arith in
+    rw all at (c .before .loop .inv .1)
 
 pub with-segment-spec : {M : Type 1} → statement M
 with-segment-spec =
@@ -57,7 +68,6 @@ with-segment-spec =
     (tie.spec
     Inv-loop
     μ-loop
-    segment-level-requires
     loop-holds
     entry-level-requires
     mul-out

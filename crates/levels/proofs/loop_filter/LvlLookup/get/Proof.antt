@@ -1,52 +1,65 @@
 use borrow.Author.Needs.{needs}
+use borrow.Author.Tests.{lt-ltb, le-ltb}
+use native.Mathlib.Omega.{arith}
+use lib.Signed.{natAbs-le}
+use mir.Facts.{toZ-ofZ}
+use Rattle.levels.specs.Levels.{lookupOf}
+use Rattle.levels.proofs.LevelLaws.{not-negative}
 use Rattle.levels.proofs.loop_filter.LvlLookup.get.Statement.{statement}
 use Rattle.levels.proofs.loop_filter.LvlLookup.get.Tie as tie
-use Rattle.levels.proofs.loop_filter.LvlLookup.get.Reads as reads
-use Rattle.levels.proofs.loop_filter.LvlLookup.get.Lts as lts
 
--- src/loop_filter.rt:48:13
 returns : tie.Need-returns
-returns c = ?
+unfolding lookupOf
+returns c = rw (le-ltb _ _ (c .if1 .taken))
 
--- src/loop_filter.rt:51:13
 returns-2 : tie.Need-returns-2
-returns-2 c = ?
+unfolding lookupOf
+returns-2 c = rw (lt-ltb _ _ (c .before .if1 .left), le-ltb _ _ (c .if2 .taken))
 
--- src/loop_filter.rt:54:13
 returns-3 : tie.Need-returns-3
-returns-3 c = ?
+unfolding lookupOf
+returns-3 c =
+    let negative = rw (toZ-ofZ (c .before .before .before .fits .ref-frame)) at (c .if3 .taken) in
+    rw (lt-ltb _ _ (c .before .before .if1 .left), lt-ltb _ _ (c .before .if2 .left), negative)
 
--- src/loop_filter.rt:56:17
 cast-r : tie.Need-cast-r
-cast-r c = ?
+cast-r c =
+    let fits = c .before .before .before .fits .ref-frame in
+    let ref = c .before .before .before .args .ref-frame in
+    rw (toZ-ofZ fits)
+    (not-negative ref (rw (toZ-ofZ fits) at (c .if3 .left)), record { fits = omega (arith, natAbs-le ref (fits .sfits)) })
 
--- src/loop_filter.rt:58:13
 returns-4 : tie.Need-returns-4
-returns-4 c = ?
+unfolding lookupOf
+returns-4 c =
+    let fits = c .before .before .before .before .fits .ref-frame in
+    let ordinal = rw (toZ-ofZ fits) at (c .before .if3 .left) in
+    let large = rw (toZ-ofZ fits) at (c .if4 .taken) in
+    rw (lt-ltb _ _ (c .before .before .before .if1 .left), lt-ltb _ _ (c .before .before .if2 .left), ordinal, le-ltb _ _ large)
 
--- src/loop_filter.rt:60:18
 mul-at : tie.Need-mul-at
 mul-at c = search needs
 
--- src/loop_filter.rt:60:35
 mul-at-2 : tie.Need-mul-at-2
 mul-at-2 c = search needs
 
--- src/loop_filter.rt:60:18
 add-at : tie.Need-add-at
 add-at c = search needs
 
--- src/loop_filter.rt:60:18
 add-at-2 : tie.Need-add-at-2
 add-at-2 c = search needs
 
--- src/loop_filter.rt:61:23
 element-copy-out-t14 : tie.Need-element-copy-out-t14
 element-copy-out-t14 c = search needs
 
--- src/loop_filter.rt:44:5
 returns-5 : tie.Need-returns-5
-returns-5 c = ?
+unfolding lookupOf
+returns-5 c =
+    let a = c .before .before .before .before in
+    let fits = a .before .fits .ref-frame in
+    let ordinal = rw (toZ-ofZ fits) at (c .before .before .if3 .left) in
+    let small = rw (toZ-ofZ fits) at (c .before .if4 .left) in
+    rw (toZ-ofZ fits, lt-ltb _ _ (a .if1 .left), lt-ltb _ _ (c .before .before .before .if2 .left), ordinal, lt-ltb _ _ small)
 
 pub get-spec : {M : Type 1} → statement M
 get-spec =
