@@ -1,4 +1,7 @@
 pub mod Notation
 pub mod Outcome
-pub mod Filled
 pub mod Entries
+pub mod Filled
+pub mod Copied
+pub mod Machine
+pub mod Tests

@@ -1,5 +1,6 @@
 -- What an operation comes to, by document 01: accepted with a result, or refused with a number and a place.
 -- Assumes nothing.
+use mathlib.Core.Path.{_≡_}
 use mathlib.Core.Bool.{Bool, true, false}
 use Prim.Native.Nat.{ℕ}
 
@@ -25,3 +26,7 @@ pub record Returned : Type 0 where
 abbrev pub returned : {A : Type 0} → Outcome A → Returned
 returned (accepted a) = record { number = 0; place = 0 }
 returned (refused number place) = record { number = number; place = place }
+
+-- the call returned r, and what was held before is now after
+abbrev pub Answers : {A : Type 0} → Outcome A → Returned → A → A → Type 0
+Answers o r before after = (r ≡ returned o) × (after ≡ held o before)

@@ -3,29 +3,18 @@
 use mathlib.Core.Path.{_≡_, refl, _∙_}
 use mathlib.Core.Bool.{true, false}
 use mathlib.Core.List.{List}
-use Prim.Native.Nat.{ℕ, _+_, _*_, _/_, _^_, _≤_, _<_}
+use Prim.Native.Nat.{ℕ, _+_, _*_, _/_, _≤_, _<_}
 use native.Mathlib.Nat.{zero-add}
 use native.Mathlib.Omega.{arith}
 use lib.Dec.{T}
 use lib.IntN.{ℤ, pos, negsuc, natAbs}
-use lib.Signed.{mag, ltZ, nonNeg}
-use mir.Facts.{toZ-ofZ}
-use mir.Syntax.{Width}
-use mir.Val.{hbits, toZ, ofZ}
+use lib.Signed.{ltZ, nonNeg}
 use Rattle.base.specs.Filled.{filled, filled-join, filled-same}
 use Rattle.base.specs.Notation.{Clip3, clip-below}
 use Rattle.levels.specs.Levels.{clippedLevel, lvlSeg, segmentLvl, placeLvl}
 use Rattle.levels.specs.declared.header.LoopFilterParams.{LoopFilterParams}
 use Rattle.levels.specs.declared.header.SegmentationParams.{SegmentationParams}
 use Rattle.levels.specs.declared.loop_filter.Deltas.{Deltas}
-
--- a signed number is read back from its bits
-pub back : (w : Width) {z : ℤ} → mag z < 2 ^ hbits w → toZ w (ofZ w z) ≡ z
-back w h = toZ-ofZ (record { sfits = h })
-
-pub level-small : (v : ℤ) → clippedLevel v ≤ 63
-unfolding clippedLevel
-level-small v = clip-below 0 63 63 v (omega arith) (omega arith)
 
 pub level-low : (v : ℤ) → ltZ v (pos 0) ≡ true → 0 ≡ clippedLevel v
 unfolding clippedLevel Clip3

@@ -1,4 +1,5 @@
 pub mod Params
 pub mod Levels
 pub mod Strength
+pub mod LevelTableLaws
 pub mod StrengthLaws

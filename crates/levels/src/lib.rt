@@ -2,4 +2,5 @@
 pub mod adaptive_filter_strength;
 pub mod dequant;
 pub mod header;
+mod limits;
 pub mod loop_filter;

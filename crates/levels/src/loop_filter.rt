@@ -6,7 +6,7 @@ ghost use lib.ListN.{getD};
 ghost use lib.Signed.{mag};
 ghost use Rattle.base.specs.Filled.{filled};
 ghost use Rattle.base.specs.Notation.{shlZ};
-ghost use Rattle.base.specs.Outcome.{held, returned};
+ghost use Rattle.base.specs.Outcome.{Answers};
 ghost use Rattle.levels.specs.Params.{resolvedDelta, resolvedFrom, defaultDeltas};
 ghost use Rattle.levels.specs.Levels.{clippedLevel, nShift, lvlSeg, deltaLvl, entryLvl, segmentLvl, placeLvl, zeroLevels, frameInit, levelTable, returnedOf, lookupOf};
 use crate::dequant::seg_feature_active;
@@ -225,7 +225,7 @@ pub fn loop_filter_frame_init(
     seg: SegmentationParams,
     deltas: Deltas,
 ) -> FrameInit
-    ensures { λ r. ⌜ (returnedOf (r .answer) ≡ returned (frameInit lf seg deltas)) × (r .table .levels ≡ held (frameInit lf seg deltas) zeroLevels) ⌝ }
+    ensures { λ r. ⌜ Answers (frameInit lf seg deltas) (returnedOf (r .answer)) zeroLevels (r .table .levels) ⌝ }
 {
     if LvlLookup::MAX_LOOP_FILTER < lf.level {
         return FrameInit {
@@ -242,7 +242,7 @@ pub fn loop_filter_frame_init(
 
 // The level table of a frame: the header's deltas are resolved first.
 pub fn level_table(lf: LoopFilterParams, seg: SegmentationParams) -> FrameInit
-    ensures { λ r. ⌜ (returnedOf (r .answer) ≡ returned (levelTable lf seg)) × (r .table .levels ≡ held (levelTable lf seg) zeroLevels) ⌝ }
+    ensures { λ r. ⌜ Answers (levelTable lf seg) (returnedOf (r .answer)) zeroLevels (r .table .levels) ⌝ }
 {
     loop_filter_frame_init(lf, seg, resolve_lf_deltas(lf))
 }

@@ -3,14 +3,13 @@
 //! levels.bin, frames.bin: records of 178 bytes: level, delta_enabled, delta_update, segmentation
 //! enabled, abs_or_delta_update; six pairs (present, delta); 32 feature_enabled; 32 feature_data of
 //! two bytes, the lower first; the refusal's number or 0; 64 levels, 255 where not compared.
-//! strength.bin: records of 5 bytes: sharpness, level, limit, blimit, thresh.
+//! strength.bin: records of 6 bytes: sharpness, level, the refusal's number or 0, limit, blimit, thresh.
 
 use crate::{cases::Case, libvpx};
 
 /// Name and contents of each file; no contents where its source is not at hand.
 pub fn files() -> [(&'static str, Option<Vec<u8>>); 3] {
     let folder = libvpx::folder();
-    let strengths = |f| libvpx::strengths(f).concat();
     [
         ("levels.bin", levels()),
         ("frames.bin", folder.as_deref().map(frames)),
@@ -37,6 +36,16 @@ fn levels() -> Option<Vec<u8>> {
         record(&case, 6, &[0; 64])
     });
     Some(accepted.chain(refused.concat()).collect())
+}
+
+/// All of libvpx's, then refusals of the document at their limits.
+fn strengths(folder: &std::path::Path) -> Vec<u8> {
+    let accepted = libvpx::strengths(folder).into_iter();
+    let accepted = accepted
+        .map(|[sharpness, lvl, limit, blimit, thresh]| [sharpness, lvl, 0, limit, blimit, thresh]);
+    let refused = [(8, 0, 1), (255, 63, 1), (8, 64, 1), (7, 64, 6), (0, 255, 6)];
+    let refused = refused.map(|(sharpness, lvl, number)| [sharpness, lvl, number, 0, 0, 0]);
+    accepted.chain(refused).flatten().collect()
 }
 
 fn frames(folder: &std::path::Path) -> Vec<u8> {

@@ -4,7 +4,7 @@ use native.Mathlib.Omega.{arith}
 use lib.IntN.{+ℤ-assoc}
 use mir.Syntax.{w8, w32}
 use Rattle.levels.specs.Levels.{intraLvl, interLvl}
-use Rattle.levels.proofs.LevelLaws.{back}
+use Rattle.base.specs.Machine.{back}
 use Rattle.levels.proofs.loop_filter.delta_level.Statement.{statement}
 use Rattle.levels.proofs.loop_filter.delta_level.Tie as tie
 

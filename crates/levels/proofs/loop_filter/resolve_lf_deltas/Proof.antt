@@ -1,7 +1,7 @@
 use borrow.Author.Needs.{needs}
 use mathlib.Core.Path.{_∙_}
 use mir.Syntax.{w8}
-use Rattle.levels.proofs.LevelLaws.{back}
+use Rattle.base.specs.Machine.{back}
 use Rattle.levels.specs.Params.{resolvedFrom}
 use Rattle.levels.proofs.loop_filter.resolve_lf_deltas.Statement.{statement}
 use Rattle.levels.proofs.loop_filter.resolve_lf_deltas.Tie as tie

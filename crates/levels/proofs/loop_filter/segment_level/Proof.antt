@@ -4,7 +4,7 @@ use native.Mathlib.Omega.{arith}
 use lib.IntN.{+ℤ-comm}
 use mir.Syntax.{w16, w32}
 use Rattle.levels.specs.Levels.{lvlSeg}
-use Rattle.levels.proofs.LevelLaws.{back}
+use Rattle.base.specs.Machine.{back}
 use Rattle.levels.proofs.loop_filter.segment_level.Statement.{statement}
 use Rattle.levels.proofs.loop_filter.segment_level.Tie as tie
 

@@ -1,0 +1,91 @@
+// Prints the level table of a built-in frame header, and the strengths of some of its levels.
+ghost use Prim.Native.Nat.{_<_};
+use levels::adaptive_filter_strength::StrengthAnswer;
+use levels::adaptive_filter_strength::strength_for_level;
+use levels::header::Delta;
+use levels::header::LoopFilterParams;
+use levels::header::SegmentationParams;
+use levels::loop_filter::level_table;
+use libc::STDOUT_FILENO;
+
+// Level 40, with deltas enabled and none in the header.
+fn header() -> LoopFilterParams {
+    let absent = Delta {
+        present: false,
+        value: 0,
+    };
+    LoopFilterParams {
+        level: 40,
+        sharpness: 0,
+        delta_enabled: true,
+        delta_update: false,
+        ref_deltas: [absent, absent, absent, absent],
+        mode_deltas: [absent, absent],
+    }
+}
+
+// Segment 1 has the absolute level 20.
+fn segments() -> SegmentationParams {
+    let mut on = [false; 32];
+    let mut data = [0i16; 32];
+    on[5] = true;
+    data[5] = 20;
+    SegmentationParams {
+        enabled: true,
+        abs_or_delta_update: true,
+        feature_enabled: on,
+        feature_data: data,
+    }
+}
+
+fn print_number(name: &[u8], number: u8) {
+    io::write_all(STDOUT_FILENO, name);
+    io::print_decimal(STDOUT_FILENO, number as u64);
+}
+
+fn print_level(level: u8) {
+    print_number(b" ", level);
+}
+
+fn print_levels(levels: [u8; 64], segment: usize)
+    requires { ⌜ segment < 8 ⌝ }
+{
+    for k in 0..8 {
+        print_level(levels[segment * 8 + k]);
+    }
+}
+
+fn print_segment(levels: [u8; 64], segment: usize)
+    requires { ⌜ segment < 8 ⌝ }
+{
+    print_number(b"segment ", segment as u8);
+    io::write_all(STDOUT_FILENO, b":");
+    print_levels(levels, segment);
+    io::write_all(STDOUT_FILENO, b"\n");
+}
+
+fn print_strength(lvl: u8, sharpness: u8) {
+    let StrengthAnswer::Done(found) = strength_for_level(lvl, sharpness) else {
+        return;
+    };
+    print_number(b"level ", lvl);
+    print_number(b" sharpness ", sharpness);
+    print_number(b": limit ", found.limit);
+    print_number(b", blimit ", found.blimit);
+    print_number(b", thresh ", found.thresh);
+    io::write_all(STDOUT_FILENO, b"\n");
+}
+
+fn main() {
+    let made = level_table(header(), segments());
+    let levels = made.table.levels;
+    io::write_all(
+        STDOUT_FILENO,
+        b"levels of intra, last, golden, altref, each for mode types 0 and 1\n",
+    );
+    print_segment(levels, 0);
+    print_segment(levels, 1);
+    print_strength(levels[0], 0);
+    print_strength(levels[0], 5);
+    print_strength(levels[8], 0);
+}

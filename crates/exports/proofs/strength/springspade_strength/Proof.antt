@@ -1,0 +1,56 @@
+use borrow.Author.Needs.{needs}
+use mathlib.Core.Path.{_≡_, _∙_}
+use Rattle.base.specs.Outcome.{Outcome}
+use Rattle.levels.specs.Strength.{outcomeOf}
+use Rattle.levels.specs.declared.adaptive_filter_strength.FilterStrength.{FilterStrength}
+use Rattle.levels.specs.declared.adaptive_filter_strength.StrengthAnswer.{StrengthAnswer}
+use Rattle.exports.specs.StrengthEntry.{entryOf}
+use Rattle.exports.proofs.strength.springspade_strength.Statement.{statement}
+use Rattle.exports.proofs.strength.springspade_strength.Tie as tie
+
+-- what the answer was found to be is what is due
+found : {a b : StrengthAnswer} {o : Outcome FilterStrength} → a ≡ b → outcomeOf a ≡ o → entryOf (outcomeOf b) ≡ entryOf o
+found e due = rw (← e, due)
+
+strength-for-level-requires : tie.Need-strength-for-level-requires
+strength-for-level-requires c κs = search needs
+
+enum-known-s : tie.Need-enum-known-s
+enum-known-s c = search needs
+
+enum-told : tie.Need-enum-told
+enum-told c = search needs
+
+refusal-requires : tie.Need-refusal-requires
+refusal-requires c κs = search needs
+
+enum-told-2 : tie.Need-enum-told-2
+enum-told-2 c = search needs
+
+refusal-requires-2 : tie.Need-refusal-requires-2
+refusal-requires-2 c κs = search needs
+
+returns : tie.Need-returns
+returns c = found (c .before .s .given .1) (c .before .before .before .strength-for-level .ensures)
+
+returns-2 : tie.Need-returns-2
+returns-2 c =
+    c .refusal .ensures ∙ found (c .before .enum-told .given .1) (c .before .before .before .strength-for-level .ensures)
+
+returns-3 : tie.Need-returns-3
+returns-3 c =
+    c .refusal2 .ensures ∙ found (c .before .enum-told2 .given .1) (c .before .before .before .strength-for-level .ensures)
+
+pub springspade-strength-spec : {M : Type 1} → statement M
+springspade-strength-spec =
+    tie.close
+    (tie.spec
+    strength-for-level-requires
+    enum-known-s
+    enum-told
+    refusal-requires
+    enum-told-2
+    refusal-requires-2
+    returns
+    returns-2
+    returns-3)

@@ -1,0 +1,3 @@
+pub mod Border
+pub mod LevelEntry
+pub mod StrengthEntry

@@ -1,0 +1,11 @@
+-- The strength at the C border: the refusal and the values in one record.
+-- Assumes nothing.
+use Prim.Native.Nat.{ℕ}
+use Rattle.base.specs.Outcome.{Outcome, accepted, refused}
+use Rattle.levels.specs.declared.adaptive_filter_strength.FilterStrength.{FilterStrength}
+use Rattle.exports.specs.declared.strength.Strength.{Strength}
+
+-- a refusal has no values: zeros
+abbrev pub entryOf : Outcome FilterStrength → Strength
+entryOf (accepted s) = record { number = 0; place = 0; limit = s .limit; blimit = s .blimit; thresh = s .thresh }
+entryOf (refused number place) = record { number = number; place = place; limit = 0; blimit = 0; thresh = 0 }

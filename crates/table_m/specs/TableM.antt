@@ -1,0 +1,62 @@
+-- Table M of document 01: worked examples, each with what the definitions give for it. One list, and one computed result.
+-- Assumes nothing.
+use mathlib.Core.Path.{_≡_, refl}
+use mathlib.Core.Bool.{Bool, true, false}
+use mathlib.Core.List.{List, [], _∷_, map}
+use Prim.Native.Nat.{ℕ}
+use lib.IntN.{ℤ, pos}
+use lib.ListN.{replicate, set, take}
+use Rattle.base.specs.Filled.{filled}
+use Rattle.base.specs.Notation.{Clip3}
+use Rattle.base.specs.Outcome.{Outcome, accepted, refused, held}
+use Rattle.levels.specs.Params.{segFeatureActive, featureAt, resolvedDelta, resolvedFrom, absent}
+use Rattle.levels.specs.Levels.{clippedLevel, lvlSeg, intraLvl, interLvl, entryLvl, segmentLvl, placeLvl, frameInit, levelTable}
+use Rattle.levels.specs.Strength.{limitOf, strengthOf, strengthFor}
+use Rattle.levels.specs.declared.adaptive_filter_strength.FilterStrength.{FilterStrength}
+use Rattle.levels.specs.declared.header.LoopFilterParams.{LoopFilterParams}
+use Rattle.levels.specs.declared.header.SegmentationParams.{SegmentationParams}
+
+-- a row: the numbers that the definitions give, and those of the document
+pub record Row : Type 0 where
+  pub given : List ℕ
+  pub stated : List ℕ
+
+abbrev row : List ℕ → List ℕ → Row
+row given stated = record { given = given; stated = stated }
+
+-- limit, blimit, thresh
+strength : ℕ → ℕ → List ℕ
+strength lvl sharpness = numbers (strengthFor lvl sharpness)
+  where
+    numbers : Outcome FilterStrength → List ℕ
+    numbers (accepted s) = s .limit ∷ s .blimit ∷ s .thresh ∷ []
+    numbers (refused number place) = []
+
+-- level 40, deltas enabled, not updated, absent
+header : LoopFilterParams
+header =
+    record { level = 40; sharpness = 0; «delta_enabled» = true; «delta_update» = false; «ref_deltas» = replicate 4 absent; «mode_deltas» = replicate 2 absent }
+
+-- no segment has a level of its own, or segment 0 has the absolute level 20
+segments : Bool → SegmentationParams
+segments on =
+    record { enabled = on; «abs_or_delta_update» = on; «feature_enabled» = set (replicate 32 false) (featureAt 0 1) on; «feature_data» = set (replicate 32 (pos 0)) (featureAt 0 1) (pos 20) }
+
+-- the first entries of segment 0: intra, last, golden, altref, each for mode types 0 and 1
+levels : Bool → ℕ → List ℕ
+levels on n = take n (held (levelTable header (segments on)) [])
+
+pub rows : List Row
+rows =
+    row (strength 0 0) (1 ∷ 5 ∷ 0 ∷ [])
+    ∷ row (strength 63 0) (63 ∷ 193 ∷ 3 ∷ [])
+    ∷ row (strength 63 7) (2 ∷ 132 ∷ 3 ∷ [])
+    ∷ row (strength 32 4) (5 ∷ 73 ∷ 2 ∷ [])
+    ∷ row (strength 32 5) (4 ∷ 72 ∷ 2 ∷ [])
+    ∷ row (levels false 8) (42 ∷ 40 ∷ 40 ∷ 40 ∷ 38 ∷ 38 ∷ 38 ∷ 38 ∷ [])
+    ∷ row (levels true 1) (22 ∷ [])
+    ∷ []
+
+pub table-m : map (λ (r : Row). r .given) rows ≡ map (λ (r : Row). r .stated) rows
+unfolding rows strength strengthFor strengthOf limitOf levels header segments levelTable frameInit filled placeLvl segmentLvl entryLvl intraLvl interLvl lvlSeg clippedLevel Clip3 segFeatureActive resolvedFrom resolvedDelta
+table-m = refl

@@ -1,0 +1,13 @@
+// Replays the fixed test vectors of data/ and prints a line for each file.
+mod levels_record;
+mod replay;
+mod strength_record;
+
+use replay::Kind;
+use replay::replay_file;
+
+fn main() {
+    replay_file(b"levels.bin", Kind::Levels);
+    replay_file(b"frames.bin", Kind::Levels);
+    replay_file(b"strength.bin", Kind::Strength);
+}
