@@ -2,7 +2,7 @@
 ghost use mathlib.Core.Path.{_≡_};
 ghost use Prim.Native.Nat.{_+_, _*_, _/_, _≤_, _<_};
 ghost use lib.IntN.{pos, _+ℤ_};
-ghost use lib.ListN.{getD};
+ghost use lib.ListN.{length};
 ghost use lib.Signed.{mag};
 ghost use Rattle.base.specs.Filled.{filled};
 ghost use Rattle.base.specs.Notation.{shlZ};
@@ -176,36 +176,25 @@ fn entry_level(lf: LoopFilterParams, deltas: Deltas, lvl: u8, reference: usize, 
     if lf.delta_update { 0 } else { lvl }
 }
 
-// The table with the eight entries of a segment whose level is lvl.
-fn with_segment(
-    levels: [u8; 64],
-    lf: LoopFilterParams,
-    deltas: Deltas,
-    lvl: u8,
-    segment: usize,
-) -> [u8; 64]
-    requires { ⌜ (lf .level ≤ 63) × (segment < 8) ⌝ }
-    ensures { λ r. ⌜ r ≡ filled (segmentLvl lf deltas lvl) (segment * 8) 8 levels ⌝ }
+// The eight entries of a segment whose level is lvl.
+fn store_segment(levels: &mut [u8], lf: LoopFilterParams, deltas: Deltas, lvl: u8, segment: usize)
+    requires { ⌜ (lf .level ≤ 63) × (segment < 8) × (64 ≤ length (now levels)) ⌝ }
+    ensures { λ r. ⌜ now (levels .exit) ≡ filled (segmentLvl lf deltas lvl) (segment * 8) 8 (now (levels .entry)) ⌝ }
 {
-    let mut out = levels;
     for k in 0..8 {
-        out[segment * 8 + k] = entry_level(lf, deltas, lvl, k / 2, k % 2);
+        levels[segment * 8 + k] = entry_level(lf, deltas, lvl, k / 2, k % 2);
     }
-    out
 }
 
 // The table for a frame level that was tested.
-fn frame_init_unchecked(lf: LoopFilterParams, seg: SegmentationParams, deltas: Deltas) -> [u8; 64]
-    requires { ⌜ lf .level ≤ 63 ⌝ }
-    ensures { λ r. ⌜ r ≡ filled (placeLvl lf seg deltas) 0 64 zeroLevels ⌝ }
+fn store_table(levels: &mut [u8], lf: LoopFilterParams, seg: SegmentationParams, deltas: Deltas)
+    requires { ⌜ (lf .level ≤ 63) × (64 ≤ length (now levels)) ⌝ }
+    ensures { λ r. ⌜ now (levels .exit) ≡ filled (placeLvl lf seg deltas) 0 64 (now (levels .entry)) ⌝ }
 {
-    let mut levels = LvlLookup::zeros().levels;
     for segment in 0..8 {
         let lvl = segment_level(lf, seg, segment);
-        let next = with_segment(levels, lf, deltas, lvl, segment);
-        levels = next;
+        store_segment(levels, lf, deltas, lvl, segment);
     }
-    levels
 }
 
 pub enum LevelAnswer {
@@ -233,7 +222,8 @@ pub fn loop_filter_frame_init(
             table: LvlLookup::zeros(),
         };
     }
-    let levels = frame_init_unchecked(lf, seg, deltas);
+    let mut levels = [0u8; 64];
+    store_table(&mut levels, lf, seg, deltas);
     FrameInit {
         answer: LevelAnswer::Done,
         table: LvlLookup { levels },

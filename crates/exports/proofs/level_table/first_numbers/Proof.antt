@@ -19,24 +19,6 @@ abbrev μ-loop : tie.MeasureT-loop
 loop-holds : tie.Need-loop-holds Inv-loop μ-loop
 loop-holds c = (search needs, copied-none (c .args .numbers .now) _)
 
-mul-out : tie.Need-mul-out Inv-loop μ-loop
-mul-out c = search needs
-
-shared-slice-copy-out-out : tie.Need-shared-slice-copy-out-out Inv-loop μ-loop
-shared-slice-copy-out-out c = search needs
-
-mul-out-2 : tie.Need-mul-out-2 Inv-loop μ-loop
-mul-out-2 c = search needs
-
-array-set-from-out : tie.Need-array-set-from-out Inv-loop μ-loop
-array-set-from-out c = search needs
-
-add-k : tie.Need-add-k Inv-loop μ-loop
-add-k c = search needs
-
-loop-less : tie.Need-loop-less Inv-loop μ-loop
-loop-less c = search needs
-
 loop-again : tie.Need-loop-again Inv-loop μ-loop
 loop-again c =
     let k = c .before .before .loop .k in (
@@ -56,11 +38,11 @@ first-numbers-spec =
     Inv-loop
     μ-loop
     loop-holds
-    mul-out
-    shared-slice-copy-out-out
-    mul-out-2
-    array-set-from-out
-    add-k
-    loop-less
+    (search needs)
+    (search needs)
+    (search needs)
+    (search needs)
+    (search needs)
+    (search needs)
     loop-again
     returns)

@@ -46,14 +46,8 @@ loop-filter-params-requires c κs = (past-tests c .deltas-long, past-tests c .pr
 segmentation-params-requires : tie.Need-segmentation-params-requires
 segmentation-params-requires c κs = (past-tests (c .before) .on-long, past-tests (c .before) .features-long)
 
-level-table-requires : tie.Need-level-table-requires
-level-table-requires c κs = search needs
-
 store-levels-requires : tie.Need-store-levels-requires
 store-levels-requires c κs = past-tests (c .before .before .before .before .before .before) .levels-long
-
-same-length : tie.Need-same-length
-same-length c = search needs
 
 returns-3 : tie.Need-returns-3
 unfolding levelEntry
@@ -72,7 +66,7 @@ springspade-level-table-spec =
     returns-2
     loop-filter-params-requires
     segmentation-params-requires
-    level-table-requires
+    (search needs)
     store-levels-requires
-    same-length
+    (search needs)
     returns-3)

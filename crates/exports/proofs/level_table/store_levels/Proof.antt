@@ -16,18 +16,6 @@ abbrev μ-loop : tie.MeasureT-loop
 loop-holds : tie.Need-loop-holds Inv-loop μ-loop
 loop-holds c = (search needs, refl, copied-none (c .args .t1) _)
 
-array-read-levels : tie.Need-array-read-levels Inv-loop μ-loop
-array-read-levels c = search needs
-
-slice-write-levels : tie.Need-slice-write-levels Inv-loop μ-loop
-slice-write-levels c = search needs
-
-add-k : tie.Need-add-k Inv-loop μ-loop
-add-k c = search needs
-
-loop-less : tie.Need-loop-less Inv-loop μ-loop
-loop-less c = search needs
-
 loop-again : tie.Need-loop-again Inv-loop μ-loop
 loop-again c =
     let a = c .before .before .args in
@@ -36,9 +24,6 @@ loop-again c =
       simp length-set (c .before .loop .inv .1),
       rw (c .before .loop .inv .2) (copied-more (a .t1) (a .levels .now) k 0 (search needs) (omega arith)),
     )
-
-same-length : tie.Need-same-length Inv-loop μ-loop
-same-length c = search needs
 
 returns : tie.Need-returns Inv-loop μ-loop
 returns c =
@@ -52,10 +37,10 @@ store-levels-spec =
     Inv-loop
     μ-loop
     loop-holds
-    array-read-levels
-    slice-write-levels
-    add-k
-    loop-less
+    (search needs)
+    (search needs)
+    (search needs)
+    (search needs)
     loop-again
-    same-length
+    (search needs)
     returns)

@@ -12,23 +12,8 @@ use Rattle.exports.proofs.strength.springspade_strength.Tie as tie
 found : {a b : StrengthAnswer} {o : Outcome FilterStrength} → a ≡ b → outcomeOf a ≡ o → entryOf (outcomeOf b) ≡ entryOf o
 found e due = rw (← e, due)
 
-strength-for-level-requires : tie.Need-strength-for-level-requires
-strength-for-level-requires c κs = search needs
-
-enum-known-s : tie.Need-enum-known-s
-enum-known-s c = search needs
-
 enum-told : tie.Need-enum-told
 enum-told c = search needs
-
-refusal-requires : tie.Need-refusal-requires
-refusal-requires c κs = search needs
-
-enum-told-2 : tie.Need-enum-told-2
-enum-told-2 c = search needs
-
-refusal-requires-2 : tie.Need-refusal-requires-2
-refusal-requires-2 c κs = search needs
 
 returns : tie.Need-returns
 returns c = found (c .before .s .given .1) (c .before .before .before .strength-for-level .ensures)
@@ -45,12 +30,12 @@ pub springspade-strength-spec : {M : Type 1} → statement M
 springspade-strength-spec =
     tie.close
     (tie.spec
-    strength-for-level-requires
-    enum-known-s
+    (search needs)
+    (search needs)
     enum-told
-    refusal-requires
-    enum-told-2
-    refusal-requires-2
+    (search needs)
+    (search needs)
+    (search needs)
     returns
     returns-2
     returns-3)

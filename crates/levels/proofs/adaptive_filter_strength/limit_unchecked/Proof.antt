@@ -24,15 +24,6 @@ placed lvl sharpness h = rw (level, sharp)
     sharp : (sharpness * 64 + lvl) / 64 ≡ sharpness
     sharp = omega arith
 
-mul-at : tie.Need-mul-at
-mul-at c = search needs
-
-add-at : tie.Need-add-at
-add-at c = search needs
-
-array-read-result : tie.Need-array-read-result
-array-read-result c = search needs
-
 returns : tie.Need-returns
 unfolding limitAt limitOf Clip3
 returns c =
@@ -40,4 +31,4 @@ returns c =
     rw (entry limitAt) (placed (c .args .lvl) (c .args .sharpness) (c .pre .0))
 
 pub limit-unchecked-spec : {M : Type 1} → statement M
-limit-unchecked-spec = tie.close (tie.spec mul-at add-at array-read-result returns)
+limit-unchecked-spec = tie.close (tie.spec (search needs) (search needs) (search needs) returns)

@@ -12,13 +12,10 @@ returns-2 : tie.Need-returns-2
 unfolding strengthFor
 returns-2 c = rw (le-ltb _ _ (c .before .if1 .left), lt-ltb _ _ (c .if2 .taken))
 
-strength-unchecked-requires : tie.Need-strength-unchecked-requires
-strength-unchecked-requires c κs = search needs
-
 returns-3 : tie.Need-returns-3
 unfolding strengthFor
 returns-3 c =
     rw (le-ltb _ _ (c .before .before .if1 .left), le-ltb _ _ (c .before .if2 .left), c .strength-unchecked .ensures)
 
 pub strength-for-level-spec : {M : Type 1} → statement M
-strength-for-level-spec = tie.close (tie.spec returns returns-2 strength-unchecked-requires returns-3)
+strength-for-level-spec = tie.close (tie.spec returns returns-2 (search needs) returns-3)

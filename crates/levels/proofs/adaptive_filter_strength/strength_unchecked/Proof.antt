@@ -5,15 +5,6 @@ use Rattle.levels.specs.StrengthLaws.{limit-small}
 use Rattle.levels.proofs.adaptive_filter_strength.strength_unchecked.Statement.{statement}
 use Rattle.levels.proofs.adaptive_filter_strength.strength_unchecked.Tie as tie
 
-limit-unchecked-requires : tie.Need-limit-unchecked-requires
-limit-unchecked-requires c κs = search needs
-
-add-t4 : tie.Need-add-t4
-add-t4 c = search needs
-
-mul-t5 : tie.Need-mul-t5
-mul-t5 c = search needs
-
 add-t6 : tie.Need-add-t6
 add-t6 c =
     omega (arith, limit-small (c .before .args .lvl) (c .before .args .sharpness) (c .before .pre .0), c .limit-unchecked .ensures)
@@ -23,4 +14,4 @@ unfolding strengthOf
 returns c = rw (c .limit-unchecked .ensures)
 
 pub strength-unchecked-spec : {M : Type 1} → statement M
-strength-unchecked-spec = tie.close (tie.spec limit-unchecked-requires add-t4 mul-t5 add-t6 returns)
+strength-unchecked-spec = tie.close (tie.spec (search needs) (search needs) (search needs) add-t6 returns)

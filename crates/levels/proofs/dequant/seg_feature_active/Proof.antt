@@ -14,19 +14,10 @@ returns-2 : tie.Need-returns-2
 unfolding segFeatureActive
 returns-2 c = rw (lt-ltb _ _ (c .before .if1 .left), le-ltb _ _ (c .if2 .taken))
 
-mul-at : tie.Need-mul-at
-mul-at c = search needs
-
-add-at : tie.Need-add-at
-add-at c = search needs
-
-element-copy-out-result : tie.Need-element-copy-out-result
-element-copy-out-result c = search needs
-
 returns-3 : tie.Need-returns-3
 unfolding segFeatureActive
 returns-3 c = rw (lt-ltb _ _ (c .before .before .if1 .left), lt-ltb _ _ (c .before .if2 .left))
 
 pub seg-feature-active-spec : {M : Type 1} → statement M
 seg-feature-active-spec =
-    tie.close (tie.spec returns returns-2 mul-at add-at element-copy-out-result returns-3)
+    tie.close (tie.spec returns returns-2 (search needs) (search needs) (search needs) returns-3)

@@ -18,16 +18,10 @@ level-is lvl h = toZ-ofZ {w = w32} {z = pos lvl} (record { sfits = omega arith }
 sum-fits : (lvl : ℕ) (x : ℤ) → lvl < 256 → mag x < 65536 → SFits w32 (pos lvl +ℤ x)
 sum-fits lvl x h k = record { sfits = omega (arith, mag-add (pos lvl) x h k) }
 
-cast-clip-level : tie.Need-cast-clip-level
-cast-clip-level c = search needs
-
 add-clip-level : tie.Need-add-clip-level
 add-clip-level c =
     rw (level-is (c .args .lvl) (c .fits .lvl .fits), toZ-ofZ (c .fits .x))
     (sum-fits (c .args .lvl) (c .args .x) (c .fits .lvl .fits) (c .pre))
-
-clip-level-requires : tie.Need-clip-level-requires
-clip-level-requires c κs = search needs
 
 returns : tie.Need-returns
 returns c =
@@ -40,4 +34,4 @@ returns c =
     at (c .clip-level .ensures)
 
 pub clipped-sum-spec : {M : Type 1} → statement M
-clipped-sum-spec = tie.close (tie.spec cast-clip-level add-clip-level clip-level-requires returns)
+clipped-sum-spec = tie.close (tie.spec (search needs) add-clip-level (search needs) returns)

@@ -8,12 +8,6 @@ use Rattle.base.specs.Machine.{back}
 use Rattle.levels.proofs.loop_filter.delta_level.Statement.{statement}
 use Rattle.levels.proofs.loop_filter.delta_level.Tie as tie
 
-element-copy-out-scaled : tie.Need-element-copy-out-scaled
-element-copy-out-scaled c = search needs
-
-scaled-requires : tie.Need-scaled-requires
-scaled-requires c κs = search needs
-
 clipped-sum-requires : tie.Need-clipped-sum-requires
 clipped-sum-requires c κs = rw (back w32 (c .before .scaled .ok)) (omega (arith, c .before .scaled .ensures))
 
@@ -23,12 +17,6 @@ returns c =
     let of-reference = rw (back w8 (c .before .before .before .scaled-arg .given)) at (c .before .before .scaled .ensures .0) in
     rw (eq-eqb _ _ (c .before .if1 .taken))
     (rw (back w32 (c .before .before .scaled .ok), of-reference, c .before .if1 .taken) at (c .clipped-sum .ensures .0))
-
-element-copy-out-scaled-2 : tie.Need-element-copy-out-scaled-2
-element-copy-out-scaled-2 c = search needs
-
-scaled-requires-2 : tie.Need-scaled-requires-2
-scaled-requires-2 c κs = search needs
 
 delta-sum-requires : tie.Need-delta-sum-requires
 delta-sum-requires c κs =
@@ -52,12 +40,12 @@ pub delta-level-spec : {M : Type 1} → statement M
 delta-level-spec =
     tie.close
     (tie.spec
-    element-copy-out-scaled
-    scaled-requires
+    (search needs)
+    (search needs)
     clipped-sum-requires
     returns
-    element-copy-out-scaled-2
-    scaled-requires-2
+    (search needs)
+    (search needs)
     delta-sum-requires
     clipped-sum-requires-2
     returns-2)

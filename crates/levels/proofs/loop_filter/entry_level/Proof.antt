@@ -3,9 +3,6 @@ use Rattle.levels.specs.Levels.{entryLvl}
 use Rattle.levels.proofs.loop_filter.entry_level.Statement.{statement}
 use Rattle.levels.proofs.loop_filter.entry_level.Tie as tie
 
-delta-level-requires : tie.Need-delta-level-requires
-delta-level-requires c κs = search needs
-
 returns : tie.Need-returns
 unfolding entryLvl
 returns c = rw (c .before .if1 .taken) (c .delta-level .ensures)
@@ -19,4 +16,4 @@ unfolding entryLvl
 returns-3 c = rw (c .before .if1 .left, c .if2 .left)
 
 pub entry-level-spec : {M : Type 1} → statement M
-entry-level-spec = tie.close (tie.spec delta-level-requires returns returns-2 returns-3)
+entry-level-spec = tie.close (tie.spec (search needs) returns returns-2 returns-3)

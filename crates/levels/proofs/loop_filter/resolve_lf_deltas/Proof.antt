@@ -6,42 +6,6 @@ use Rattle.levels.specs.Params.{resolvedFrom}
 use Rattle.levels.proofs.loop_filter.resolve_lf_deltas.Statement.{statement}
 use Rattle.levels.proofs.loop_filter.resolve_lf_deltas.Tie as tie
 
-element-copy-out-resolved : tie.Need-element-copy-out-resolved
-element-copy-out-resolved c = search needs
-
-resolved-requires : tie.Need-resolved-requires
-resolved-requires c κs = search needs
-
-element-copy-out-resolved-2 : tie.Need-element-copy-out-resolved-2
-element-copy-out-resolved-2 c = search needs
-
-resolved-requires-2 : tie.Need-resolved-requires-2
-resolved-requires-2 c κs = search needs
-
-element-copy-out-resolved-3 : tie.Need-element-copy-out-resolved-3
-element-copy-out-resolved-3 c = search needs
-
-resolved-requires-3 : tie.Need-resolved-requires-3
-resolved-requires-3 c κs = search needs
-
-element-copy-out-resolved-4 : tie.Need-element-copy-out-resolved-4
-element-copy-out-resolved-4 c = search needs
-
-resolved-requires-4 : tie.Need-resolved-requires-4
-resolved-requires-4 c κs = search needs
-
-element-copy-out-resolved-5 : tie.Need-element-copy-out-resolved-5
-element-copy-out-resolved-5 c = search needs
-
-resolved-requires-5 : tie.Need-resolved-requires-5
-resolved-requires-5 c κs = search needs
-
-element-copy-out-resolved-6 : tie.Need-element-copy-out-resolved-6
-element-copy-out-resolved-6 c = search needs
-
-resolved-requires-6 : tie.Need-resolved-requires-6
-resolved-requires-6 c κs = search needs
-
 returns : tie.Need-returns
 unfolding resolvedFrom
 returns c =
@@ -58,16 +22,16 @@ pub resolve-lf-deltas-spec : {M : Type 1} → statement M
 resolve-lf-deltas-spec =
     tie.close
     (tie.spec
-    element-copy-out-resolved
-    resolved-requires
-    element-copy-out-resolved-2
-    resolved-requires-2
-    element-copy-out-resolved-3
-    resolved-requires-3
-    element-copy-out-resolved-4
-    resolved-requires-4
-    element-copy-out-resolved-5
-    resolved-requires-5
-    element-copy-out-resolved-6
-    resolved-requires-6
+    (search needs)
+    (search needs)
+    (search needs)
+    (search needs)
+    (search needs)
+    (search needs)
+    (search needs)
+    (search needs)
+    (search needs)
+    (search needs)
+    (search needs)
+    (search needs)
     returns)

@@ -8,27 +8,6 @@ use Rattle.base.specs.Machine.{back}
 use Rattle.levels.proofs.loop_filter.segment_level.Statement.{statement}
 use Rattle.levels.proofs.loop_filter.segment_level.Tie as tie
 
-seg-feature-active-requires : tie.Need-seg-feature-active-requires
-seg-feature-active-requires c κs = search needs
-
-mul-at : tie.Need-mul-at
-mul-at c = search needs
-
-add-at : tie.Need-add-at
-add-at c = search needs
-
-mul-widen : tie.Need-mul-widen
-mul-widen c = search needs
-
-element-copy-out-widen : tie.Need-element-copy-out-widen
-element-copy-out-widen c = search needs
-
-widen-requires : tie.Need-widen-requires
-widen-requires c κs = search needs
-
-clip-level-requires : tie.Need-clip-level-requires
-clip-level-requires c κs = search needs
-
 returns : tie.Need-returns
 unfolding lvlSeg
 returns c =
@@ -56,13 +35,13 @@ pub segment-level-spec : {M : Type 1} → statement M
 segment-level-spec =
     tie.close
     (tie.spec
-    seg-feature-active-requires
-    mul-at
-    add-at
-    mul-widen
-    element-copy-out-widen
-    widen-requires
-    clip-level-requires
+    (search needs)
+    (search needs)
+    (search needs)
+    (search needs)
+    (search needs)
+    (search needs)
+    (search needs)
     returns
     clipped-sum-requires
     returns-2

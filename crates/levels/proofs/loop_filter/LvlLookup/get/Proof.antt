@@ -37,21 +37,6 @@ returns-4 c =
     let large = rw (toZ-ofZ fits) at (c .if4 .taken) in
     rw (lt-ltb _ _ (c .before .before .before .if1 .left), lt-ltb _ _ (c .before .before .if2 .left), ordinal, le-ltb _ _ large)
 
-mul-at : tie.Need-mul-at
-mul-at c = search needs
-
-mul-at-2 : tie.Need-mul-at-2
-mul-at-2 c = search needs
-
-add-at : tie.Need-add-at
-add-at c = search needs
-
-add-at-2 : tie.Need-add-at-2
-add-at-2 c = search needs
-
-element-copy-out-t14 : tie.Need-element-copy-out-t14
-element-copy-out-t14 c = search needs
-
 returns-5 : tie.Need-returns-5
 unfolding lookupOf
 returns-5 c =
@@ -70,9 +55,9 @@ get-spec =
     returns-3
     cast-r
     returns-4
-    mul-at
-    mul-at-2
-    add-at
-    add-at-2
-    element-copy-out-t14
+    (search needs)
+    (search needs)
+    (search needs)
+    (search needs)
+    (search needs)
     returns-5)
