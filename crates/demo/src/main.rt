@@ -1,12 +1,12 @@
 // Prints the level table of a built-in frame header, and the strengths of some of its levels.
 ghost use Prim.Native.Nat.{_<_};
-use levels::adaptive_filter_strength::StrengthAnswer;
-use levels::adaptive_filter_strength::strength_for_level;
 use levels::header::Delta;
 use levels::header::LoopFilterParams;
 use levels::header::SegmentationParams;
 use levels::loop_filter::level_table;
 use libc::STDOUT_FILENO;
+use strength::StrengthAnswer;
+use strength::strength_for_level;
 
 // Level 40, with deltas enabled and none in the header.
 fn header() -> LoopFilterParams {

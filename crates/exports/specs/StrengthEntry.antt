@@ -2,8 +2,8 @@
 -- Assumes nothing.
 use Prim.Native.Nat.{ℕ}
 use Rattle.base.specs.Outcome.{Outcome, accepted, refused}
-use Rattle.levels.specs.declared.adaptive_filter_strength.FilterStrength.{FilterStrength}
-use Rattle.exports.specs.declared.strength.Strength.{Strength}
+use Rattle.strength.specs.declared.FilterStrength.{FilterStrength}
+use Rattle.exports.specs.declared.strength_entry.Strength.{Strength}
 
 -- a refusal has no values: zeros
 abbrev pub entryOf : Outcome FilterStrength → Strength

@@ -1,5 +1,3 @@
 pub mod Params
 pub mod Levels
-pub mod Strength
 pub mod LevelTableLaws
-pub mod StrengthLaws

@@ -11,8 +11,8 @@ use Rattle.base.specs.Notation.{Clip3}
 use Rattle.base.specs.Outcome.{Outcome, accepted, refused, held}
 use Rattle.levels.specs.Params.{segFeatureActive, featureAt, resolvedDelta, resolvedFrom, absent}
 use Rattle.levels.specs.Levels.{clippedLevel, lvlSeg, intraLvl, interLvl, entryLvl, segmentLvl, placeLvl, frameInit, levelTable}
-use Rattle.levels.specs.Strength.{limitOf, strengthOf, strengthFor}
-use Rattle.levels.specs.declared.adaptive_filter_strength.FilterStrength.{FilterStrength}
+use Rattle.strength.specs.Strength.{limitOf, strengthOf, strengthFor}
+use Rattle.strength.specs.declared.FilterStrength.{FilterStrength}
 use Rattle.levels.specs.declared.header.LoopFilterParams.{LoopFilterParams}
 use Rattle.levels.specs.declared.header.SegmentationParams.{SegmentationParams}
 

@@ -1,8 +1,8 @@
 // A record of a level's strength, laid out as tests/differential/src/vectors.rs says.
 use crate::replay::Record;
-use levels::adaptive_filter_strength::FilterStrength;
-use levels::adaptive_filter_strength::StrengthAnswer;
-use levels::adaptive_filter_strength::strength_for_level;
+use strength::FilterStrength;
+use strength::StrengthAnswer;
+use strength::strength_for_level;
 
 pub(crate) const LENGTH: usize = 6;
 

@@ -1,0 +1,26 @@
+-- Laws of the strength for its users.
+-- Assumes nothing.
+use mathlib.Core.Path.{_≡_, refl}
+use mathlib.Core.Bool.{Bool, true, false}
+use Prim.Native.Nat.{ℕ, _-_, _/_, _≤_, max}
+use native.Mathlib.Nat.{div-le-self}
+use native.Mathlib.Omega.{arith}
+use lib.Dec.{ltb}
+use lib.IntN.{pos, natAbs}
+use Rattle.base.specs.Notation.{Clip3, clip-below}
+use Rattle.strength.specs.Strength.{limitOf}
+
+-- a limit is at most 63
+pub limit-small : (lvl sharpness : ℕ) → lvl ≤ 63 → limitOf lvl sharpness ≤ 63
+unfolding limitOf
+limit-small lvl sharpness h = cases (ltb 0 sharpness) refl
+  where
+    shifted : (n : ℕ) → max 1 (lvl / n) ≤ 63
+    shifted n = omega (arith, div-le-self lvl n)
+
+    clipped : (n : ℕ) → natAbs (Clip3 (pos 1) (pos (9 - sharpness)) (pos n)) ≤ 63
+    clipped n = clip-below 1 (9 - sharpness) 63 (pos n) (omega arith) (omega arith)
+
+    cases : (t : Bool) → ltb 0 sharpness ≡ t → limitOf lvl sharpness ≤ 63
+    cases true e = rw e (clipped _)
+    cases false e = rw e (shifted _)

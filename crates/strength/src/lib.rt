@@ -1,0 +1,76 @@
+// The strength of a filter level (8.8.4), in the order of the Rust's adaptive_filter_strength.rs.
+ghost use mathlib.Core.Path.{_≡_};
+ghost use Prim.Native.Nat.{_≤_};
+ghost use Rattle.strength.specs.Strength.{modeType, limitOf, strengthOf, strengthFor, outcomeOf};
+
+mod limits;
+
+use limits::LIMITS;
+
+pub const NEARESTMV: u8 = 10;
+
+pub const NEARMV: u8 = 11;
+
+pub const ZEROMV: u8 = 12;
+
+pub const NEWMV: u8 = 13;
+
+// What the line filter is set by.
+pub struct FilterStrength {
+    pub lvl: u8,
+    pub limit: u8,
+    pub blimit: u8,
+    pub thresh: u8,
+}
+
+pub enum StrengthAnswer {
+    Done(FilterStrength),
+    Sharpness,
+    Level,
+}
+
+// Takes any mode: 1 for those that predict a motion vector.
+pub fn mode_to_mode_type(mode: u8) -> usize
+    ensures { λ r. ⌜ r ≡ modeType mode ⌝ }
+{
+    if (mode == NEARESTMV) | (mode == NEARMV) | (mode == NEWMV) {
+        1
+    } else {
+        0
+    }
+}
+
+fn limit_unchecked(lvl: u8, sharpness: u8) -> u8
+    requires { ⌜ (lvl ≤ 63) × (sharpness ≤ 7) ⌝ }
+    ensures { λ r. ⌜ r ≡ limitOf lvl sharpness ⌝ }
+{
+    let at = sharpness as usize * 64 + lvl as usize;
+    LIMITS[at]
+}
+
+// The work without the tests, for a caller that has made them.
+pub fn strength_unchecked(lvl: u8, sharpness: u8) -> FilterStrength
+    requires { ⌜ (lvl ≤ 63) × (sharpness ≤ 7) ⌝ }
+    ensures { λ r. ⌜ r ≡ strengthOf lvl sharpness ⌝ }
+{
+    let limit = limit_unchecked(lvl, sharpness);
+    FilterStrength {
+        lvl,
+        limit,
+        blimit: 2 * (lvl + 2) + limit,
+        thresh: lvl / 16,
+    }
+}
+
+// The strength of a level, or the refusal of a sharpness above 7 or a level above 63.
+pub fn strength_for_level(lvl: u8, sharpness: u8) -> StrengthAnswer
+    ensures { λ r. ⌜ outcomeOf r ≡ strengthFor lvl sharpness ⌝ }
+{
+    if 7 < sharpness {
+        return StrengthAnswer::Sharpness;
+    }
+    if 63 < lvl {
+        return StrengthAnswer::Level;
+    }
+    StrengthAnswer::Done(strength_unchecked(lvl, sharpness))
+}
