@@ -1,4 +1,5 @@
 pub mod Notation
+pub mod NotationLaws
 pub mod Outcome
 pub mod Entries
 pub mod Filled

@@ -1,13 +1,13 @@
 -- The level table at the C border, where arrays arrive as lists that may be too short.
 -- Assumes nothing.
-use mathlib.Core.Bool.{Bool, true, false, _||_}
+use mathlib.Core.Bool.{Bool, false, _||_}
 use mathlib.Core.List.{List, [], _∷_}
 use Prim.Native.Nat.{ℕ}
 use lib.Dec.{ltb}
 use lib.IntN.{ℤ, pos}
 use lib.ListN.{length, getD, take}
 use Rattle.base.specs.Copied.{copied}
-use Rattle.base.specs.Outcome.{Outcome, accepted, refused, refuse, held}
+use Rattle.base.specs.Outcome.{Outcome, accepted, refuse, held}
 use Rattle.levels.specs.Levels.{levelTable, zeroLevels}
 use Rattle.levels.specs.declared.header.Delta.{Delta}
 use Rattle.levels.specs.declared.header.LoopFilterParams.{LoopFilterParams}

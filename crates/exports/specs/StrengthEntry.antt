@@ -1,6 +1,5 @@
 -- The strength at the C border: the refusal and the values in one record.
 -- Assumes nothing.
-use Prim.Native.Nat.{ℕ}
 use Rattle.base.specs.Outcome.{Outcome, accepted, refused}
 use Rattle.strength.specs.declared.FilterStrength.{FilterStrength}
 use Rattle.exports.specs.declared.strength_entry.Strength.{Strength}

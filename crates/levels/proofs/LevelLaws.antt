@@ -1,16 +1,16 @@
 -- Laws of the level table's definitions, for its functions' proofs.
 -- Assumes nothing.
-use mathlib.Core.Path.{_≡_, refl, _∙_}
+use mathlib.Core.Path.{_≡_, _∙_}
 use mathlib.Core.Bool.{true, false}
 use mathlib.Core.List.{List}
-use Prim.Native.Nat.{ℕ, _+_, _*_, _/_, _≤_, _<_}
+use Prim.Native.Nat.{ℕ, _+_, _*_, _/_, _<_}
 use native.Mathlib.Nat.{zero-add}
 use native.Mathlib.Omega.{arith}
 use lib.Dec.{T}
 use lib.IntN.{ℤ, pos, negsuc, natAbs}
 use lib.Signed.{ltZ, nonNeg}
 use Rattle.base.specs.Filled.{filled, filled-join, filled-same}
-use Rattle.base.specs.Notation.{Clip3, clip-below}
+use Rattle.base.specs.Notation.{Clip3}
 use Rattle.levels.specs.Levels.{clippedLevel, lvlSeg, segmentLvl, placeLvl}
 use Rattle.levels.specs.declared.header.LoopFilterParams.{LoopFilterParams}
 use Rattle.levels.specs.declared.header.SegmentationParams.{SegmentationParams}

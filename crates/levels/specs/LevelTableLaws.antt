@@ -2,8 +2,7 @@
 -- Assumes nothing.
 use mathlib.Core.Path.{_≡_, refl, sym, _∙_}
 use mathlib.Core.Bool.{Bool, true, false, not, _&&_, true≢false}
-use mathlib.Core.List.{List}
-use Prim.Native.Nat.{ℕ, _+_, _*_, _/_, _%_, _≤_, _<_}
+use Prim.Native.Nat.{ℕ, _/_, _%_, _≤_, _<_}
 use native.Mathlib.Nat.{zero-add}
 use native.Mathlib.Omega.{arith}
 use lib.Dec.{eqb}
@@ -11,7 +10,7 @@ use lib.IntN.{ℤ}
 use lib.ListN.{getD}
 use borrow.Author.Tests.{le-ltb, eq-eqb, eqb-true}
 use Rattle.base.specs.Filled.{filled, filled-at}
-use Rattle.base.specs.Notation.{clip-below}
+use Rattle.base.specs.NotationLaws.{clip-below}
 use Rattle.base.specs.Outcome.{held}
 use Rattle.levels.specs.Params.{segFeatureActive}
 use Rattle.levels.specs.Levels.{clippedLevel, lvlSeg, intraLvl, interLvl, standardLvl, entryLvl, levelAt, segmentLvl, placeLvl, zeroLevels, frameInit}

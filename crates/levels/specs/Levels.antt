@@ -1,7 +1,6 @@
 -- The level table of a frame: loop_filter_frame_init( ), 8.8.1.
 -- Assumes nothing.
-use mathlib.Core.Path.{_≡_, refl}
-use mathlib.Core.Bool.{Bool, true, false, cond, not, _&&_}
+use mathlib.Core.Bool.{cond, not, _&&_}
 use mathlib.Core.List.{List}
 use Prim.Native.Nat.{ℕ, _+_, _*_, _/_, _%_}
 use lib.Dec.{eqb, ltb}
@@ -10,7 +9,7 @@ use lib.ListN.{getD, replicate}
 use lib.Signed.{ltZ}
 use Rattle.base.specs.Filled.{filled}
 use Rattle.base.specs.Notation.{Clip3, shlZ}
-use Rattle.base.specs.Outcome.{Outcome, accepted, refused, refuse, Returned}
+use Rattle.base.specs.Outcome.{Outcome, accepted, refuse, Returned}
 use Rattle.levels.specs.Params.{segFeatureActive, featureData, resolvedFrom, defaultDeltas}
 use Rattle.levels.specs.declared.header.LoopFilterParams.{LoopFilterParams}
 use Rattle.levels.specs.declared.header.SegmentationParams.{SegmentationParams}
@@ -19,6 +18,8 @@ use Rattle.levels.specs.declared.loop_filter.LevelAnswer.{LevelAnswer}
 use Rattle.levels.specs.declared.loop_filter.LevelAnswer.the-variants.{Done, Level}
 use Rattle.levels.specs.declared.loop_filter.Lookup.{Lookup}
 use Rattle.levels.specs.declared.loop_filter.Lookup.the-variants.{Found, Nothing}
+
+-- ---- the standard's process
 
 -- Clip3( 0, MAX_LOOP_FILTER, v ), as a number
 unfoldable pub clippedLevel : ℤ → ℕ
@@ -51,6 +52,8 @@ deltaLvl lf deltas lvl ref mode = cond (eqb ref 0) (intraLvl lf deltas lvl) (int
 -- the standard's entry of a segment whose level is lvl. Intra blocks have mode type 0, and the standard has one entry for them.
 unfoldable pub standardLvl : LoopFilterParams → Deltas → ℕ → ℕ → ℕ → ℕ
 standardLvl lf deltas lvl ref mode = cond (lf .«delta_enabled») (deltaLvl lf deltas lvl ref mode) lvl
+
+-- ---- document 01's table
 
 -- document 01's entry, which follows the Rust. Step 3 tests delta_update, and what it leaves is 0; step 4 sets all entries
 -- but that of intra and mode type 1.

@@ -8,7 +8,7 @@ ghost use Rattle.base.specs.Filled.{filled};
 ghost use Rattle.base.specs.Notation.{shlZ};
 ghost use Rattle.base.specs.Outcome.{Answers};
 ghost use Rattle.levels.specs.Params.{resolvedDelta, resolvedFrom, defaultDeltas};
-ghost use Rattle.levels.specs.Levels.{clippedLevel, nShift, lvlSeg, deltaLvl, entryLvl, segmentLvl, placeLvl, zeroLevels, frameInit, levelTable, returnedOf, lookupOf};
+ghost use Rattle.levels.specs.Levels.{clippedLevel, lvlSeg, deltaLvl, entryLvl, segmentLvl, placeLvl, zeroLevels, frameInit, levelTable, returnedOf, lookupOf};
 use crate::dequant::seg_feature_active;
 use crate::header::Delta;
 use crate::header::LoopFilterParams;
@@ -197,6 +197,7 @@ fn store_table(levels: &mut [u8], lf: LoopFilterParams, seg: SegmentationParams,
     }
 }
 
+// What became of a level table: it was made, or refused for a frame level above 63.
 pub enum LevelAnswer {
     Done,
     Level,

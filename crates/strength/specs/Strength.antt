@@ -1,7 +1,7 @@
 -- The strength of a filter level: 8.8.4.
 -- Assumes nothing.
-use mathlib.Core.Bool.{Bool, cond, _||_}
-use Prim.Native.Nat.{ℕ, _+_, _-_, _*_, _/_, _%_, _^_, max}
+use mathlib.Core.Bool.{cond, _||_}
+use Prim.Native.Nat.{ℕ, _+_, _-_, _*_, _/_, _^_, max}
 use lib.Dec.{eqb, ltb}
 use lib.IntN.{pos, natAbs}
 use Rattle.base.specs.Notation.{Clip3}

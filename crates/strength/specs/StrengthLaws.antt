@@ -7,7 +7,8 @@ use native.Mathlib.Nat.{div-le-self}
 use native.Mathlib.Omega.{arith}
 use lib.Dec.{ltb}
 use lib.IntN.{pos, natAbs}
-use Rattle.base.specs.Notation.{Clip3, clip-below}
+use Rattle.base.specs.Notation.{Clip3}
+use Rattle.base.specs.NotationLaws.{clip-below}
 use Rattle.strength.specs.Strength.{limitOf}
 
 -- a limit is at most 63

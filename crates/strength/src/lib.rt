@@ -23,6 +23,7 @@ pub struct FilterStrength {
     pub thresh: u8,
 }
 
+// The strength, or the refusal of a sharpness above 7 or a level above 63.
 pub enum StrengthAnswer {
     Done(FilterStrength),
     Sharpness,
@@ -62,7 +63,7 @@ pub fn strength_unchecked(lvl: u8, sharpness: u8) -> FilterStrength
     }
 }
 
-// The strength of a level, or the refusal of a sharpness above 7 or a level above 63.
+// Takes any level and any sharpness.
 pub fn strength_for_level(lvl: u8, sharpness: u8) -> StrengthAnswer
     ensures { λ r. ⌜ outcomeOf r ≡ strengthFor lvl sharpness ⌝ }
 {

@@ -1,7 +1,7 @@
 -- The table's rule: one test that is computed over its 512 entries, and the rule's law at the entry read.
 -- Assumes nothing.
 use borrow.Author.Needs.{needs}
-use mathlib.Core.Path.{_≡_, _∙_}
+use mathlib.Core.Path.{_≡_}
 use native.Mathlib.Omega.{arith}
 use Prim.Native.Nat.{ℕ, _+_, _*_, _/_, _%_, _≤_, _<_}
 use Rattle.base.specs.Entries.{entry}

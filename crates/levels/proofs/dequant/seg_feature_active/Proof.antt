@@ -1,7 +1,5 @@
 use borrow.Author.Needs.{needs}
 use borrow.Author.Tests.{lt-ltb, le-ltb}
-use mathlib.Core.Bool.{_&&_, false}
-use lib.Dec.{ltb}
 use Rattle.levels.specs.Params.{segFeatureActive}
 use Rattle.levels.proofs.dequant.seg_feature_active.Statement.{statement}
 use Rattle.levels.proofs.dequant.seg_feature_active.Tie as tie

@@ -5,9 +5,9 @@ use native.Mathlib.Omega.{arith}
 use lib.IntN.{ℤ, pos, _+ℤ_}
 use lib.Signed.{mag}
 use mir.Facts.{toZ-ofZ}
-use mir.Syntax.{w8, w32}
-use mir.Val.{SFits, Fits, toZ}
-use Rattle.base.specs.Notation.{mag-add}
+use mir.Syntax.{w32}
+use mir.Val.{SFits, toZ}
+use Rattle.base.specs.NotationLaws.{mag-add}
 use Rattle.levels.proofs.loop_filter.clipped_sum.Statement.{statement}
 use Rattle.levels.proofs.loop_filter.clipped_sum.Tie as tie
 

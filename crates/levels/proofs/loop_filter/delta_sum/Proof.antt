@@ -5,7 +5,7 @@ use lib.IntN.{_+ℤ_}
 use lib.Signed.{mag}
 use mir.Facts.{toZ-ofZ}
 use mir.Syntax.{w32}
-use Rattle.base.specs.Notation.{mag-add}
+use Rattle.base.specs.NotationLaws.{mag-add}
 use Rattle.base.specs.Machine.{back}
 use Rattle.levels.proofs.loop_filter.delta_sum.Statement.{statement}
 use Rattle.levels.proofs.loop_filter.delta_sum.Tie as tie

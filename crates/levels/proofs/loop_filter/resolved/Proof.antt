@@ -1,5 +1,4 @@
 use borrow.Author.Needs.{needs}
-use mir.Facts.{toZ-ofZ}
 use Rattle.levels.specs.Params.{resolvedDelta}
 use Rattle.levels.proofs.loop_filter.resolved.Statement.{statement}
 use Rattle.levels.proofs.loop_filter.resolved.Tie as tie

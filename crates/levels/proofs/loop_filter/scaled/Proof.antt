@@ -1,13 +1,11 @@
-use borrow.Author.Needs.{needs}
 use mathlib.Core.Path.{_≡_, refl, sym}
-use Prim.Native.Nat.{ℕ, _/_, _^_, _<_, _≤_}
+use Prim.Native.Nat.{_/_}
 use native.Mathlib.Omega.{arith}
-use lib.IntN.{ℤ, pos, _*ℤ_, *ℤ-one}
-use lib.Signed.{mag}
+use lib.IntN.{ℤ, pos, _*ℤ_}
 use mir.Facts.{toZ-ofZ}
 use mir.Syntax.{w8, w32}
 use mir.Val.{SFits}
-use Rattle.base.specs.Notation.{shlZ, shl-none, mag-double}
+use Rattle.base.specs.NotationLaws.{shl-none, mag-double}
 use Rattle.levels.proofs.loop_filter.scaled.Statement.{statement}
 use Rattle.levels.proofs.loop_filter.scaled.Tie as tie
 
