@@ -25,7 +25,9 @@ fn main() {
         .unwrap_or_else(|_| format!("{manifest}/../../../shared/docs/src/src"));
     println!("cargo::rerun-if-changed={source}");
     if !Path::new(&source).is_dir() {
-        println!("cargo::warning=the Rust is not at {source}: set OXIDEAV_VP9_SRC");
+        println!(
+            "cargo::warning=the Rust is not at {source} (OXIDEAV_VP9_SRC names another place): what needs it is passed over"
+        );
         return;
     }
     let hooks = fs::read_to_string("src/hooks.rs").unwrap();

@@ -1,7 +1,7 @@
 // The level table over lists.
 ghost use mathlib.Core.Path.{_≡_};
 ghost use Prim.Native.Nat.{_≤_, _<_};
-ghost use lib.ListN.{length, take};
+ghost use lib.ListN.{length};
 ghost use Rattle.base.specs.Copied.{copied};
 ghost use Rattle.base.specs.Outcome.{Answers};
 ghost use Rattle.exports.specs.Border.{returnedOf};
@@ -19,28 +19,6 @@ fn delta_at(deltas: &[i8], present: &[bool], k: usize) -> Delta
         present: present[k],
         value: deltas[k],
     }
-}
-
-fn first_flags(flags: &[bool]) -> [bool; 32]
-    requires { ⌜ 32 ≤ length (now flags) ⌝ }
-    ensures { λ r. ⌜ r ≡ take 32 (now (flags .entry)) ⌝ }
-{
-    let mut out = [false; 32];
-    for k in 0..32 {
-        out[k] = flags[k];
-    }
-    out
-}
-
-fn first_numbers(numbers: &[i16]) -> [i16; 32]
-    requires { ⌜ 32 ≤ length (now numbers) ⌝ }
-    ensures { λ r. ⌜ r ≡ take 32 (now (numbers .entry)) ⌝ }
-{
-    let mut out = [0i16; 32];
-    for k in 0..32 {
-        out[k] = numbers[k];
-    }
-    out
 }
 
 fn store_levels(table: [u8; 64], levels: &mut [u8])
@@ -87,8 +65,12 @@ fn segmentation_params(
     requires { ⌜ (32 ≤ length (now flags)) × (32 ≤ length (now numbers)) ⌝ }
     ensures { λ r. ⌜ r ≡ segmentsOf enabled «abs_or_delta_update» (now (flags .entry)) (now (numbers .entry)) ⌝ }
 {
-    let feature_enabled = first_flags(flags);
-    let feature_data = first_numbers(numbers);
+    let mut feature_enabled = [false; 32];
+    let mut feature_data = [0i16; 32];
+    for k in 0..32 {
+        feature_enabled[k] = flags[k];
+        feature_data[k] = numbers[k];
+    }
     SegmentationParams {
         enabled,
         abs_or_delta_update,

@@ -46,6 +46,7 @@ segments on =
 levels : Bool → ℕ → List ℕ
 levels on n = take n (held (levelTable header (segments on)) [])
 
+-- M1 to M5 are strengths, M6 and M7 level tables
 pub rows : List Row
 rows =
     row (strength 0 0) (1 ∷ 5 ∷ 0 ∷ [])
