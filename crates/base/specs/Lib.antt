@@ -6,3 +6,5 @@ pub mod Filled
 pub mod Copied
 pub mod Machine
 pub mod Tests
+pub mod First
+pub mod Depth

@@ -1,9 +1,9 @@
 -- The mathematical functions of VP9-S on integers, as the loop filter uses them.
 -- Assumes nothing.
 use mathlib.Core.Bool.{cond}
-use Prim.Native.Nat.{ℕ, _^_}
-use lib.IntN.{ℤ, pos, _*ℤ_}
-use lib.Signed.{ltZ}
+use Prim.Native.Nat.{ℕ, _+_, _-_, _*_, _/_, _^_}
+use lib.IntN.{ℤ, pos, _+ℤ_, _*ℤ_}
+use lib.Signed.{ltZ, shrZ}
 
 -- Clip3( lo, hi, v )
 unfoldable pub Clip3 : ℤ → ℤ → ℤ → ℤ
@@ -12,3 +12,18 @@ Clip3 lo hi v = cond (ltZ v lo) lo (cond (ltZ hi v) hi v)
 -- v << n
 abbrev pub shlZ : ℤ → ℕ → ℤ
 shlZ v n = v *ℤ pos (2 ^ n)
+
+-- v >> n, rounded down
+abbrev pub shrℤ : ℤ → ℕ → ℤ
+shrℤ v n = shrZ v (2 ^ n)
+
+-- Abs( a - b ) for two samples
+abbrev pub absDiff : ℕ → ℕ → ℕ
+absDiff a b = (a - b) + (b - a)
+
+-- Round2( v, n ) for a number, and for an integer
+abbrev pub Round2 : ℕ → ℕ → ℕ
+Round2 v n = (v + 2 ^ (n - 1)) / 2 ^ n
+
+abbrev pub Round2Z : ℤ → ℕ → ℤ
+Round2Z v n = shrZ (v +ℤ pos (2 ^ (n - 1))) (2 ^ n)

@@ -1,0 +1,7 @@
+pub mod Taps
+pub mod Masks
+pub mod NarrowFilter
+pub mod NarrowFilterLaws
+pub mod WideFilter
+pub mod SampleFiltering
+pub mod Line

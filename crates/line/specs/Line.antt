@@ -1,0 +1,31 @@
+-- Document 01's line: the sample filtering process with its refusals.
+-- Assumes nothing.
+use mathlib.Core.Bool.{Bool, not}
+use mathlib.Core.List.{List}
+use Prim.Native.Nat.{ℕ, _^_}
+use lib.Dec.{leb, ltb}
+use Rattle.base.specs.Depth.{supported}
+use Rattle.base.specs.First.{refuseFirst}
+use Rattle.base.specs.Outcome.{Outcome, accepted, refuse, Returned}
+use Rattle.line.specs.Taps.{tap}
+use Rattle.line.specs.SampleFiltering.{sampleFiltering}
+use Rattle.line.specs.declared.LineAnswer.{LineAnswer}
+use Rattle.line.specs.declared.LineAnswer.the-variants.{Done, Depth, Sample, Size}
+
+-- the sample at tap k is not below b
+abbrev pub reaches : ℕ → List ℕ → ℕ → Bool
+reaches b t k = leb b (tap t k)
+
+unfoldable pub line : ℕ → ℕ → ℕ → ℕ → ℕ → List ℕ → Outcome (List ℕ)
+line depth size limit blimit thresh t =
+    refuse (not (supported depth)) 2 0
+    (refuseFirst (reaches (2 ^ depth) t) 16 13
+    (refuse (ltb 2 size) 15 0
+    (accepted (sampleFiltering depth size limit blimit thresh t))))
+
+-- document 01's number and place for each answer
+abbrev pub returnedOf : LineAnswer → Returned
+returnedOf Done = record { number = 0; place = 0 }
+returnedOf Depth = record { number = 2; place = 0 }
+returnedOf (Sample k) = record { number = 13; place = k }
+returnedOf Size = record { number = 15; place = 0 }

@@ -1,0 +1,21 @@
+-- The sample filtering process: 8.8.5. Which filter a line gets.
+-- Assumes nothing.
+use mathlib.Core.Bool.{Bool, cond, not, _||_}
+use mathlib.Core.List.{List}
+use Prim.Native.Nat.{ℕ, _-_, _*_, _^_}
+use lib.Dec.{eqb}
+use Rattle.line.specs.Masks.{hevMask, filterMask, flatMask, flatMask2}
+use Rattle.line.specs.NarrowFilter.{narrowFilter}
+use Rattle.line.specs.WideFilter.{wideFilter}
+
+-- v << (B - 8)
+abbrev pub scaled : ℕ → ℕ → ℕ
+scaled B v = v * 2 ^ (B - 8)
+
+unfoldable pub sampleFiltering : ℕ → ℕ → ℕ → ℕ → ℕ → List ℕ → List ℕ
+sampleFiltering B filterSize limit blimit thresh t =
+    cond (filterMask (scaled B limit) (scaled B blimit) t)
+    (cond (eqb filterSize 0 || not (flatMask (scaled B 1) t))
+    (narrowFilter B (hevMask (scaled B thresh) t) t)
+    (cond (eqb filterSize 1 || not (flatMask2 (scaled B 1) t)) (wideFilter 3 t) (wideFilter 4 t)))
+    t

@@ -1,0 +1,13 @@
+// The line filter (8.8.5).
+mod taps;
+mod depth;
+mod masks;
+mod narrow;
+
+// What became of a line: it was filtered, or refused.
+pub enum LineAnswer {
+    Done,
+    Depth,
+    Sample(usize),
+    Size,
+}
