@@ -3,6 +3,7 @@ mod taps;
 mod depth;
 mod masks;
 mod narrow;
+mod wide;
 
 // What became of a line: it was filtered, or refused.
 pub enum LineAnswer {
