@@ -9,6 +9,10 @@ use lib.Dec.{T, eqb, eqb→eq}
 unfoldable pub supported : ℕ → Bool
 supported depth = eqb depth 8 || eqb depth 10 || eqb depth 12
 
+-- v << (B - 8): a number at the scale of the depth
+abbrev pub scaled : ℕ → ℕ → ℕ
+scaled B v = v * 2 ^ (B - 8)
+
 -- the depth, its scale, half the range of a sample and the whole of it
 pub record Scaled (B : ℕ) : Type 0 where
   pub low : 8 ≤ B

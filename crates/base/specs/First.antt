@@ -1,23 +1,52 @@
 -- The first place at which a test holds, and the refusal that names it.
 -- Assumes nothing.
-use mathlib.Core.Bool.{Bool, cond}
-use Prim.Native.Nat.{ℕ, zero, suc, _+_}
-use lib.Dec.{ltb}
+use mathlib.Core.Path.{_≡_, refl}
+use mathlib.Core.Bool.{Bool, true, false, cond, _||_}
+use Prim.Native.Nat.{ℕ, zero, suc, _+_, _-_, _<_}
+use native.Mathlib.Numerals.{add-one}
+use native.Mathlib.Omega.{arith}
 use Rattle.base.specs.Outcome.{Outcome, refuse}
 
--- the first of n places from k on at which the test holds, or k + n where there is none
+-- whether the test holds at one of the first n places
+unfoldable pub found : (ℕ → Bool) → ℕ → Bool
+found test zero = false
+found test (suc n) = found test n || test n
+
+-- the first of n places from k on at which it holds, or k + n
 unfoldable pub firstFrom : (ℕ → Bool) → ℕ → ℕ → ℕ
 firstFrom test k zero = k
-firstFrom test k (suc n) = cond (test k) k (firstFrom test (suc k) n)
+firstFrom test k (suc n) = cond (test k) k (firstFrom test (k + 1) n)
 
--- the first of n places, or n
 abbrev pub first : (ℕ → Bool) → ℕ → ℕ
 first test n = firstFrom test 0 n
-
--- whether there is one
-abbrev pub found : (ℕ → Bool) → ℕ → Bool
-found test n = ltb (first test n) n
 
 -- a line of document 01's table whose place is the smallest that offends
 abbrev pub refuseFirst : {A : Type 0} → (ℕ → Bool) → ℕ → ℕ → Outcome A → Outcome A
 refuseFirst test n number after = refuse (found test n) number (first test n) after
+
+pub found-start : (test : ℕ → Bool) → false ≡ found test 0
+unfolding found
+found-start test = refl
+
+pub found-more : (test : ℕ → Bool) (n : ℕ) → found test n || test n ≡ found test (n + 1)
+unfolding found
+found-more test n = rw (add-one n)
+
+-- a test that holds nowhere
+pub found-none : (test : ℕ → Bool) (n : ℕ) → ((k : ℕ) → k < n → test k ≡ false) → found test n ≡ false
+unfolding found
+found-none test zero h = refl
+found-none test (suc n) h = rw (found-none test n (λ k p. h k (omega arith)), h n (omega arith))
+
+-- a search that has come to place k of n: it ends there, or goes on
+pub first-here : (test : ℕ → Bool) (k n : ℕ) → k < n → test k ≡ true → firstFrom test k (n - k) ≡ k
+unfolding firstFrom
+first-here test k n p e = let s : n - k ≡ suc (n - (k + 1)) = omega arith in rw (s, e)
+
+pub first-next : (test : ℕ → Bool) (k n : ℕ) → k < n → test k ≡ false → firstFrom test k (n - k) ≡ firstFrom test (k + 1) (n - (k + 1))
+unfolding firstFrom
+first-next test k n p e = let s : n - k ≡ suc (n - (k + 1)) = omega arith in rw (s, e)
+
+pub first-end : (test : ℕ → Bool) (n : ℕ) → firstFrom test n 0 ≡ n
+unfolding firstFrom
+first-end test n = refl

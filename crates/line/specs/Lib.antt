@@ -5,4 +5,6 @@ pub mod NarrowFilterLaws
 pub mod WideFilter
 pub mod WideFilterLaws
 pub mod SampleFiltering
+pub mod SampleFilteringLaws
 pub mod Line
+pub mod LineLaws

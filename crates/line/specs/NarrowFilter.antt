@@ -2,9 +2,10 @@
 -- Assumes nothing.
 use mathlib.Core.Bool.{Bool, cond}
 use mathlib.Core.List.{List}
-use Prim.Native.Nat.{ℕ, _-_, _*_, _^_}
+use Prim.Native.Nat.{ℕ, _-_, _^_}
 use lib.IntN.{ℤ, pos, negℤ, natAbs, _+ℤ_, _-ℤ_, _*ℤ_}
 use lib.ListN.{set}
+use Rattle.base.specs.Depth.{scaled}
 use Rattle.base.specs.Notation.{Clip3, shrℤ, Round2Z}
 use Rattle.line.specs.Taps.{p, q}
 
@@ -14,7 +15,7 @@ c B v = Clip3 (negℤ (pos (2 ^ (B - 1)))) (pos (2 ^ (B - 1) - 1)) v
 
 -- 0x80 << (B - 8)
 abbrev pub offset : ℕ → ℤ
-offset B = pos (128 * 2 ^ (B - 8))
+offset B = pos (scaled B 128)
 
 -- a sample less the offset, and a sum of such back among the samples
 abbrev pub signed : ℕ → ℕ → ℤ

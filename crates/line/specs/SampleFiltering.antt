@@ -2,15 +2,12 @@
 -- Assumes nothing.
 use mathlib.Core.Bool.{Bool, cond, not, _||_}
 use mathlib.Core.List.{List}
-use Prim.Native.Nat.{ℕ, _-_, _*_, _^_}
+use Prim.Native.Nat.{ℕ}
 use lib.Dec.{eqb}
+use Rattle.base.specs.Depth.{scaled}
 use Rattle.line.specs.Masks.{hevMask, filterMask, flatMask, flatMask2}
 use Rattle.line.specs.NarrowFilter.{narrowFilter}
 use Rattle.line.specs.WideFilter.{wideFilter}
-
--- v << (B - 8)
-abbrev pub scaled : ℕ → ℕ → ℕ
-scaled B v = v * 2 ^ (B - 8)
 
 unfoldable pub sampleFiltering : ℕ → ℕ → ℕ → ℕ → ℕ → List ℕ → List ℕ
 sampleFiltering B filterSize limit blimit thresh t =

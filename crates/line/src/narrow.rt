@@ -7,7 +7,7 @@ ghost use lib.Signed.{mag};
 ghost use Rattle.base.specs.Depth.{supported};
 ghost use Rattle.base.specs.Notation.{Clip3, shrℤ, Round2Z};
 ghost use Rattle.line.specs.NarrowFilter.{c, offset, signed, sample, narrowFilter};
-use crate::depth::scale;
+use crate::depth::scaled;
 use crate::taps::*;
 
 // 0x80 << (depth - 8), half the range of a sample.
@@ -15,7 +15,7 @@ fn offset(depth: u8) -> i32
     requires { ⌜ supported depth ≡ true ⌝ }
     ensures { λ r. ⌜ (r ≡ offset depth) × (mag r < 2049) ⌝ }
 {
-    (128 * scale(depth)) as i32
+    scaled(128, depth) as i32
 }
 
 fn clip3(lo: i32, hi: i32, v: i32) -> i32

@@ -1,0 +1,31 @@
+-- Laws of document 01's line: its cases.
+-- Assumes nothing.
+use mathlib.Core.Path.{_≡_}
+use mathlib.Core.Bool.{true, false}
+use mathlib.Core.List.{List}
+use Prim.Native.Nat.{ℕ, _^_, _≤_, _<_}
+use borrow.Author.Tests.{lt-ltb, le-ltb}
+use Rattle.base.specs.Depth.{supported}
+use Rattle.base.specs.First.{first, found}
+use Rattle.base.specs.Outcome.{accepted, refused}
+use Rattle.line.specs.Line.{reaches, line}
+use Rattle.line.specs.SampleFiltering.{sampleFiltering}
+
+module _ (depth size limit blimit thresh : ℕ) (t : List ℕ) where
+  pub line-depth : supported depth ≡ false → line depth size limit blimit thresh t ≡ refused 2 0
+  unfolding line
+  line-depth d = rw d
+
+  module _ (d : supported depth ≡ true) where
+    pub line-sample : found (reaches (2 ^ depth) t) 16 ≡ true → line depth size limit blimit thresh t ≡ refused 13 (first (reaches (2 ^ depth) t) 16)
+    unfolding line
+    line-sample s = rw (d, s)
+
+    module _ (s : found (reaches (2 ^ depth) t) 16 ≡ false) where
+      pub line-size : 2 < size → line depth size limit blimit thresh t ≡ refused 15 0
+      unfolding line
+      line-size h = rw (d, s, lt-ltb 2 size h)
+
+      pub line-filtered : size ≤ 2 → line depth size limit blimit thresh t ≡ accepted (sampleFiltering depth size limit blimit thresh t)
+      unfolding line
+      line-filtered h = rw (d, s, le-ltb 2 size h)
