@@ -2,6 +2,7 @@
 
 pub mod cases;
 pub mod libvpx;
+pub mod lines;
 pub mod random;
 #[cfg(oracle)]
 pub mod rust;

@@ -1,6 +1,8 @@
-//! What libvpx computes: strength.tsv and the frames of quick.tar.xz.
+//! What libvpx computes: strength.tsv, the lines of lines.bin.xz and the frames of quick.tar.xz.
 
 use crate::cases::{Case, LEVEL_40, SEG_LVL_ALT_L};
+use crate::lines::Line;
+use springspade::Strength;
 use std::path::{Path, PathBuf};
 use std::process::Command;
 use std::{array, env, fs};
@@ -12,6 +14,12 @@ pub struct Frame {
     pub name: String,
     pub case: Case,
     pub levels: [u8; 64],
+}
+
+pub struct Filtered {
+    pub line: Line,
+    /// The samples that the filter leaves.
+    pub after: [u16; 16],
 }
 
 /// Where libvpx's vectors are, if they are at hand.
@@ -31,6 +39,26 @@ pub fn strengths(folder: &Path) -> Vec<[u8; 5]> {
         fields.try_into().unwrap()
     };
     text.lines().skip(1).map(record).collect()
+}
+
+pub fn lines(folder: &Path) -> Vec<Filtered> {
+    let xz = Command::new("xz").arg("-dc").arg(folder.join("lines.bin.xz")).output().unwrap();
+    assert!(xz.status.success());
+    let (records, rest) = xz.stdout.as_chunks();
+    assert!(rest.is_empty());
+    records.iter().map(filtered).collect()
+}
+
+fn filtered(record: &[u8; 72]) -> Filtered {
+    let &[depth, size, limit, blimit, thresh, 0, 0, 0, ..] = record else {
+        panic!("{record:?}");
+    };
+    let sample = |k: usize| u16::from_le_bytes([record[8 + 2 * k], record[9 + 2 * k]]);
+    let strength = Strength { limit, blimit, thresh };
+    Filtered {
+        line: Line { depth, size, strength, taps: array::from_fn(sample) },
+        after: array::from_fn(|k| sample(16 + k)),
+    }
 }
 
 /// The frames by name, without those of filter level 0.

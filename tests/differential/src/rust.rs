@@ -1,8 +1,10 @@
 //! The Rust's answers.
 
-use crate::cases::Case;
+use crate::{cases::Case, lines::Line};
 use oracle::header::{LoopFilterParams, SegmentationParams};
 use oracle::loop_filter::{LvlLookup, loop_filter_frame_init, resolve_lf_deltas};
+use oracle::superblock_loop_filter::{hook_line, hook_line_h, hook_line_i32, hook_line_i32_h};
+use springspade::Strength;
 
 pub fn params(case: &Case) -> (LoopFilterParams, SegmentationParams) {
     let lf = case.loop_filter();
@@ -37,4 +39,14 @@ pub fn lookup(lf: &LoopFilterParams, seg: &SegmentationParams) -> LvlLookup {
 pub fn level_table(case: &Case) -> [u8; 64] {
     let (lf, seg) = params(case);
     lookup(&lf, &seg).levels.as_flattened().as_flattened().try_into().unwrap()
+}
+
+/// One line in the lanes that the Rust takes for its depth, then in 32-bit lanes, by each gather.
+pub fn line(line: &Line) -> [[u16; 16]; 4] {
+    let Strength { limit, blimit, thresh } = line.strength;
+    [hook_line, hook_line_h, hook_line_i32, hook_line_i32_h].map(|way| {
+        let mut taps = line.taps;
+        way(&mut taps, limit, blimit, thresh, line.size, line.depth);
+        taps
+    })
 }

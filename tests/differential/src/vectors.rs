@@ -4,16 +4,21 @@
 //! enabled, abs_or_delta_update; six pairs (present, delta); 32 feature_enabled; 32 feature_data of
 //! two bytes, the lower first; the refusal's number or 0; 64 levels, 255 where not compared.
 //! strength.bin: records of 6 bytes: sharpness, level, the refusal's number or 0, limit, blimit, thresh.
+//! lines.bin: records of 72 bytes: depth, size, limit, blimit, thresh, the refusal's number or 0, its
+//! place, 0; the 16 samples before and the 16 after, of two bytes, the lower first, from p7 to q7.
 
+use crate::lines::{Line, STEP};
 use crate::{cases::Case, libvpx};
+use std::collections::HashSet;
 
 /// Name and contents of each file; no contents where its source is not at hand.
-pub fn files() -> [(&'static str, Option<Vec<u8>>); 3] {
+pub fn files() -> [(&'static str, Option<Vec<u8>>); 4] {
     let folder = libvpx::folder();
     [
         ("levels.bin", levels()),
         ("frames.bin", folder.as_deref().map(frames)),
         ("strength.bin", folder.as_deref().map(strengths)),
+        ("lines.bin", folder.as_deref().map(lines)),
     ]
 }
 
@@ -68,5 +73,50 @@ fn record(case: &Case, refusal: u8, levels: &[u8; 64]) -> Vec<u8> {
     bytes.extend(case.feature_data.as_flattened().iter().flat_map(|datum| datum.to_le_bytes()));
     bytes.push(refusal);
     bytes.extend(levels);
+    bytes
+}
+
+/// Every 40th of libvpx's, 600, then refusals of the document at their limits.
+fn lines(folder: &std::path::Path) -> Vec<u8> {
+    let lines = libvpx::lines(folder);
+    let sample = || lines.iter().step_by(40);
+    let kinds: HashSet<_> = sample().map(|f| (f.line.depth, f.line.size, f.line.arm())).collect();
+    assert_eq!(kinds.len(), 3 * (2 + 3 + 4), "at each depth, the arms of sizes 0, 1 and 2");
+    let accepted = sample().map(|f| line_record(&f.line, 0, 0, &f.after));
+    let refused =
+        lines_refused().map(|(line, number, place)| line_record(&line, number, place, &line.taps));
+    accepted.chain(refused).flatten().collect()
+}
+
+/// Each with its number and place.
+fn lines_refused() -> [(Line, u8, u8); 13] {
+    let strength = springspade::strength(32, 0).unwrap();
+    let step = Line { depth: 8, size: 0, strength, taps: STEP };
+    let with = |depth: u8, size: u8, samples: &[(usize, u16)]| {
+        let mut line = Line { depth, size, ..step };
+        samples.iter().for_each(|&(tap, sample)| line.taps[tap] = sample);
+        line
+    };
+    [
+        (with(7, 0, &[]), 2, 0),
+        (with(9, 2, &[]), 2, 0),
+        (with(11, 2, &[]), 2, 0),
+        (with(13, 2, &[]), 2, 0),
+        (with(9, 3, &[(5, 65535)]), 2, 0),
+        (with(8, 0, &[(0, 256)]), 13, 0),
+        (with(8, 2, &[(15, 256)]), 13, 15),
+        (with(10, 1, &[(7, 1024)]), 13, 7),
+        (with(12, 1, &[(8, 4096)]), 13, 8),
+        (with(12, 2, &[(3, 65535), (12, 65535)]), 13, 3),
+        (with(8, 3, &[(9, 256)]), 13, 9),
+        (with(8, 3, &[]), 15, 0),
+        (with(12, 255, &[]), 15, 0),
+    ]
+}
+
+fn line_record(line: &Line, refusal: u8, place: u8, after: &[u16; 16]) -> Vec<u8> {
+    let springspade::Strength { limit, blimit, thresh } = line.strength;
+    let mut bytes = vec![line.depth, line.size, limit, blimit, thresh, refusal, place, 0];
+    bytes.extend(line.taps.iter().chain(after).flat_map(|sample| sample.to_le_bytes()));
     bytes
 }

@@ -1,6 +1,7 @@
 //! The document's own cases and refusals.
 
 use differential::cases::*;
+use differential::lines::STEP;
 use differential::random::Random;
 use springspade::*;
 
@@ -119,5 +120,120 @@ fn lists_long_enough() {
         assert_eq!(level_table_into(&lists, &mut levels[..length]), ACCEPTED);
         assert_eq!(levels[..64], table(&LEVEL_40));
         assert_eq!(levels[64..], BEFORE[64..]);
+    }
+}
+
+/// The strength of the document's lines.
+fn strength_32() -> Strength {
+    strength(32, 0).unwrap()
+}
+
+/// `taps` with the samples from `first` on replaced.
+fn with(mut taps: [u16; 16], first: usize, samples: &[u16]) -> [u16; 16] {
+    taps[first..][..samples.len()].copy_from_slice(samples);
+    taps
+}
+
+#[test]
+fn lines() {
+    let step_10 = STEP.map(|sample| sample * 4);
+    let six = [101, 101, 102, 103, 103, 104];
+    let fourteen = [100, 101, 101, 101, 101, 102, 102, 102, 103, 103, 103, 103, 104, 104];
+    for (depth, size, before, after) in [
+        (8, 0, STEP, with(STEP, 6, &[101, 101, 102, 103])),
+        (8, 1, STEP, with(STEP, 5, &six)),
+        (8, 2, STEP, with(STEP, 1, &fourteen)),
+        (8, 0, with(STEP, 7, &[110]), with(STEP, 7, &[107, 107])),
+        (10, 0, step_10, with(step_10, 6, &[403, 406, 410, 413])),
+    ] {
+        let mut taps = before;
+        assert_eq!(line(&mut taps, depth, size, strength_32()), Ok(()));
+        assert_eq!(taps, after, "depth {depth}, size {size}, {before:?}");
+    }
+}
+
+/// The first `length` of `samples` are refused, and all of them are left.
+fn line_refused(samples: &[u16], length: usize, depth: u8, size: u8, number: u32, place: u32) {
+    let mut after = samples.to_vec();
+    let returned = line_into(&mut after[..length], depth, size, strength_32());
+    let call = format!("depth {depth}, size {size}, {length} of {samples:?}");
+    assert_eq!(returned, Returned { number, place }, "{call}");
+    assert_eq!(after, samples, "{call}");
+}
+
+#[test]
+fn line_depths() {
+    for depth in 0..=255 {
+        if matches!(depth, 8 | 10 | 12) {
+            assert_eq!(line(&mut STEP.clone(), depth, 2, strength_32()), Ok(()));
+        } else {
+            line_refused(&STEP, 16, depth, 2, 2, 0);
+        }
+    }
+}
+
+#[test]
+fn line_sizes() {
+    for size in 0..=255 {
+        if size <= 2 {
+            assert_eq!(line(&mut STEP.clone(), 8, size, strength_32()), Ok(()));
+        } else {
+            line_refused(&STEP, 16, 8, size, 15, 0);
+        }
+    }
+}
+
+#[test]
+fn line_samples() {
+    for (depth, top) in [(8, 255), (10, 1023), (12, 4095)] {
+        for tap in 0..16 {
+            let mut taps = with(STEP, tap, &[top]);
+            assert_eq!(line(&mut taps, depth, 0, strength_32()), Ok(()));
+            for sample in [top + 1, 32768, 65535] {
+                let place = tap as u32;
+                line_refused(&with(STEP, tap, &[sample]), 16, depth, 0, 13, place);
+                let behind = with(STEP, tap, &[sample; 16][tap..]);
+                line_refused(&behind, 16, depth, 0, 13, place);
+            }
+        }
+    }
+}
+
+#[test]
+fn lines_too_short() {
+    for length in 0..16 {
+        line_refused(&STEP, length, 8, 0, 7, 0);
+    }
+}
+
+/// Of several refusals the lowest number is returned.
+#[test]
+fn lines_refused() {
+    for faults in 1..16 {
+        let [depth, short, sample, size] = [1, 2, 4, 8].map(|fault| faults & fault != 0);
+        let (number, place) = match (depth, short, sample) {
+            (true, _, _) => (2, 0),
+            (_, true, _) => (7, 0),
+            (_, _, true) => (13, 3),
+            _ => (15, 0),
+        };
+        let taps = if sample { with(STEP, 3, &[65535]) } else { STEP };
+        let length = if short { 15 } else { 16 };
+        line_refused(&taps, length, 8 + u8::from(depth), 2 + u8::from(size), number, place);
+    }
+}
+
+#[test]
+fn lines_long_enough() {
+    let mut alone = STEP;
+    assert_eq!(line(&mut alone, 8, 2, strength_32()), Ok(()));
+    assert_ne!(alone, STEP);
+    // What stands behind the 16 is not tested.
+    for length in 16..=20 {
+        let mut samples = [65535; 20];
+        samples[..16].copy_from_slice(&STEP);
+        assert_eq!(line_into(&mut samples[..length], 8, 2, strength_32()), ACCEPTED);
+        assert_eq!(samples[..16], alone);
+        assert_eq!(samples[16..], [65535; 4]);
     }
 }

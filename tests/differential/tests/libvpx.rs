@@ -1,7 +1,7 @@
 //! Ours against what libvpx computes.
 
 use differential::{libvpx, say};
-use springspade::{Strength, level_table, strength};
+use springspade::{Strength, level_table, line, strength};
 
 #[test]
 fn strengths_equal() {
@@ -33,4 +33,21 @@ fn level_tables_equal() {
         }
     }
     say(&format!("{} frames, {entries} entries equal libvpx's", frames.len()));
+}
+
+#[test]
+fn lines_equal() {
+    let Some(folder) = libvpx::folder() else {
+        return say("passed over: libvpx's vectors are not at hand");
+    };
+    let lines = libvpx::lines(&folder);
+    assert_eq!(lines.len(), 24_000);
+    let mut arms = [0; 4];
+    for (i, libvpx::Filtered { line: case, after }) in lines.iter().enumerate() {
+        let mut taps = case.taps;
+        assert_eq!(line(&mut taps, case.depth, case.size, case.strength), Ok(()), "line {i}");
+        assert_eq!(taps, *after, "line {i}, {case:?}");
+        arms[case.arm() as usize] += 1;
+    }
+    say(&format!("{} lines equal libvpx's; none, narrow, six, fourteen: {arms:?}", lines.len()));
 }

@@ -40,6 +40,36 @@ pub fn hook_line_i32<T: Px>(
     filter_lanes_i32::<T, false>(&mut row[..], 8, 1, 16, 1, st, f_size, depth);
 }
 
+/// The same in 32-bit lanes, through the other gather.
+pub fn hook_line_i32_h<T: Px>(
+    row: &mut [T; 16],
+    limit: u8,
+    blimit: u8,
+    thresh: u8,
+    f_size: u8,
+    depth: u8,
+) {
+    let st = FilterStrength { lvl: 1, limit, blimit, thresh };
+    filter_lanes_i32::<T, true>(&mut row[..], 8, 1, 1, 1, st, f_size, depth);
+}
+
+/// The lane kernel on n positions, as the pass calls it.
+pub fn hook_lanes<T: Px>(
+    data: &mut [T],
+    q0: usize,
+    step: usize,
+    along: usize,
+    n: usize,
+    limit: u8,
+    blimit: u8,
+    thresh: u8,
+    f_size: u8,
+    depth: u8,
+) {
+    let st = FilterStrength { lvl: 1, limit, blimit, thresh };
+    filter_lanes(data, q0, step, along, n, st, f_size, depth);
+}
+
 /// (block_mask[pass][sub], tx, uv_tx, skip_inter, lvl) of every cell LfRowCells::new makes.
 pub type HookCell = ([[u8; 2]; 2], u8, u8, bool, u8);
 

@@ -32,6 +32,15 @@ mod c {
         ) -> Returned;
         pub safe fn springspade_strength(lvl: u8, sharpness: u8) -> Strength;
         pub safe fn springspade_mode_type(mode: u8) -> usize;
+        pub fn springspade_line(
+            taps: *mut u16,
+            taps_len: usize,
+            depth: u8,
+            size: u8,
+            limit: u8,
+            blimit: u8,
+            thresh: u8,
+        ) -> Returned;
     }
 }
 
@@ -168,4 +177,20 @@ pub fn strength_returned(lvl: u8, sharpness: u8) -> (Returned, Strength) {
 #[inline]
 pub fn mode_type(mode: u8) -> usize {
     c::springspade_mode_type(mode)
+}
+
+/// Filters one line of samples, p7 to p0 and q0 to q7.
+#[inline]
+pub fn line(taps: &mut [u16; 16], depth: u8, size: u8, strength: Strength) -> Result<(), Refused> {
+    line_into(taps, depth, size, strength).accepted()
+}
+
+/// Filters the line in the first 16 of `taps`.
+#[inline]
+pub fn line_into(taps: &mut [u16], depth: u8, size: u8, strength: Strength) -> Returned {
+    let Strength { limit, blimit, thresh } = strength;
+    // SAFETY: the pointer goes with the length of its slice.
+    unsafe {
+        c::springspade_line(taps.as_mut_ptr(), taps.len(), depth, size, limit, blimit, thresh)
+    }
 }
