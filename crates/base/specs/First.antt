@@ -2,7 +2,7 @@
 -- Assumes nothing.
 use mathlib.Core.Path.{_≡_, refl}
 use mathlib.Core.Bool.{Bool, true, false, cond, _||_}
-use Prim.Native.Nat.{ℕ, zero, suc, _+_, _-_, _<_}
+use Prim.Native.Nat.{ℕ, zero, suc, _+_, _-_, _≤_, _<_}
 use native.Mathlib.Numerals.{add-one}
 use native.Mathlib.Omega.{arith}
 use Rattle.base.specs.Outcome.{Outcome, refuse}
@@ -50,3 +50,12 @@ first-next test k n p e = let s : n - k ≡ suc (n - (k + 1)) = omega arith in r
 pub first-end : (test : ℕ → Bool) (n : ℕ) → firstFrom test n 0 ≡ n
 unfolding firstFrom
 first-end test n = refl
+
+pub first-small : (test : ℕ → Bool) (k n : ℕ) → firstFrom test k n ≤ k + n
+unfolding firstFrom
+first-small test k zero = omega arith
+first-small test k (suc n) = at (test k) (first-small test (k + 1) n)
+  where
+    at : {m : ℕ} (b : Bool) → m ≤ k + 1 + n → cond b k m ≤ k + suc n
+    at true h = omega arith
+    at false h = omega arith

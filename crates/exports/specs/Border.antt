@@ -3,5 +3,5 @@
 use Rattle.base.specs.Outcome.{Returned}
 use Rattle.exports.specs.declared.border.Refusal.{Refusal}
 
-abbrev pub returnedOf : Refusal → Returned
-returnedOf r = record { number = r .number; place = r .place }
+abbrev pub numbersOf : Refusal → Returned
+numbersOf r = record { number = r .number; place = r .place }

@@ -4,7 +4,7 @@ ghost use Prim.Native.Nat.{_≤_, _<_};
 ghost use lib.ListN.{length};
 ghost use Rattle.base.specs.Copied.{copied};
 ghost use Rattle.base.specs.Outcome.{Answers};
-ghost use Rattle.exports.specs.Border.{returnedOf};
+ghost use Rattle.exports.specs.Border.{numbersOf};
 ghost use Rattle.exports.specs.LevelEntry.{deltaAt, paramsOf, segmentsOf, levelEntry};
 use crate::border::Refusal;
 use levels::header::Delta;
@@ -93,7 +93,7 @@ pub extern "C" fn springspade_level_table(
     feature_data: &[i16],
     levels: &mut [u8],
 ) -> Refusal
-    ensures { λ r. ⌜ Answers (levelEntry level «delta_enabled» «delta_update» (now (deltas .entry)) (now (present .entry)) «seg_enabled» «abs_or_delta_update» (now («feature_enabled» .entry)) (now («feature_data» .entry)) (now (levels .entry))) (returnedOf r) (now (levels .entry)) (now (levels .exit)) ⌝ }
+    ensures { λ r. ⌜ Answers (levelEntry level «delta_enabled» «delta_update» (now (deltas .entry)) (now (present .entry)) «seg_enabled» «abs_or_delta_update» (now («feature_enabled» .entry)) (now («feature_data» .entry)) (now (levels .entry))) (numbersOf r) (now (levels .entry)) (now (levels .exit)) ⌝ }
 {
     if 63 < level {
         return Refusal {

@@ -1,4 +1,5 @@
 // The entries that C and Rust call. A list crosses the border as a pointer and a length.
 pub mod border;
 pub mod level_entry;
+pub mod line_entry;
 pub mod strength_entry;

@@ -1,13 +1,15 @@
 -- Laws of document 01's line: its cases.
 -- Assumes nothing.
 use mathlib.Core.Path.{_≡_}
-use mathlib.Core.Bool.{true, false}
+use mathlib.Core.Bool.{Bool, true, false, not}
 use mathlib.Core.List.{List}
 use Prim.Native.Nat.{ℕ, _^_, _≤_, _<_}
+use native.Mathlib.Omega.{arith}
+use lib.Dec.{ltb}
 use borrow.Author.Tests.{lt-ltb, le-ltb}
 use Rattle.base.specs.Depth.{supported}
-use Rattle.base.specs.First.{first, found}
-use Rattle.base.specs.Outcome.{accepted, refused}
+use Rattle.base.specs.First.{first, found, first-small}
+use Rattle.base.specs.Outcome.{accepted, refused, refuse, returned}
 use Rattle.line.specs.Line.{reaches, line}
 use Rattle.line.specs.SampleFiltering.{sampleFiltering}
 
@@ -29,3 +31,17 @@ module _ (depth size limit blimit thresh : ℕ) (t : List ℕ) where
       pub line-filtered : size ≤ 2 → line depth size limit blimit thresh t ≡ accepted (sampleFiltering depth size limit blimit thresh t)
       unfolding line
       line-filtered h = rw (d, s, le-ltb 2 size h)
+
+  -- a place is a tap's, or 0
+  pub line-place : returned (line depth size limit blimit thresh t) .place ≤ 16
+  unfolding line
+  line-place = cases (supported depth) (found (reaches (2 ^ depth) t) 16) (ltb 2 size)
+    where
+      filtered : List ℕ
+      filtered = sampleFiltering depth size limit blimit thresh t
+
+      cases : (d s z : Bool) → returned (refuse (not d) 2 0 (refuse s 13 (first (reaches (2 ^ depth) t) 16) (refuse z 15 0 (accepted filtered)))) .place ≤ 16
+      cases false s z = omega arith
+      cases true true z = first-small (reaches (2 ^ depth) t) 0 16
+      cases true false true = omega arith
+      cases true false false = omega arith

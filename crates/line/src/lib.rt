@@ -8,10 +8,10 @@ ghost use Rattle.base.specs.Outcome.{Answers};
 ghost use Rattle.line.specs.SampleFiltering.{sampleFiltering};
 ghost use Rattle.line.specs.Line.{reaches, line, returnedOf};
 
-mod taps;
-mod depth;
+pub mod depth;
 mod masks;
 mod narrow;
+mod taps;
 mod wide;
 
 use depth::is_supported;

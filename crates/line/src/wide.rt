@@ -56,7 +56,14 @@ fn side7(
 ) -> Seven
     ensures { λ r. ⌜ (r .x6 ≡ fourteen6 x7 x6 x5 x4 x3 x2 x1 x0 y0) × (r .x5 ≡ fourteen5 x7 x6 x5 x4 x3 x2 x1 x0 y0 y1) × (r .x4 ≡ fourteen4 x7 x6 x5 x4 x3 x2 x1 x0 y0 y1 y2) × (r .x3 ≡ fourteen3 x7 x6 x5 x4 x3 x2 x1 x0 y0 y1 y2 y3) × (r .x2 ≡ fourteen2 x7 x6 x5 x4 x3 x2 x1 x0 y0 y1 y2 y3 y4) × (r .x1 ≡ fourteen1 x7 x6 x5 x4 x3 x2 x1 x0 y0 y1 y2 y3 y4 y5) × (r .x0 ≡ fourteen0 x7 x6 x5 x4 x3 x2 x1 x0 y0 y1 y2 y3 y4 y5 y6) ⌝ }
 {
-    let near = x0 as u32 + x1 as u32 + x2 as u32 + x3 as u32 + x4 as u32 + x5 as u32 + x6 as u32 + 8;
+    let near = x0 as u32
+        + x1 as u32
+        + x2 as u32
+        + x3 as u32
+        + x4 as u32
+        + x5 as u32
+        + x6 as u32
+        + 8;
     let y0 = y0 as u32;
     let y1 = y0 + y1 as u32;
     let y2 = y1 + y2 as u32;

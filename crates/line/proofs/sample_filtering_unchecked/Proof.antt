@@ -17,7 +17,7 @@ returns c =
     let a = at-args .args in
     let t = now (a .t) in
     let m : filterMask (scaled (a .depth) (a .limit)) (scaled (a .depth) (a .blimit)) t ≡ false =
-        rw (at-mask .filter-mask .ensures, at-mask .before .scaled2 .ensures .0, at-mask .before .before .scaled .ensures .0) at (not-true (at-mask .filter-mask .result) (c .if1 .taken)) in
+    rw (at-mask .filter-mask .ensures, at-mask .before .scaled2 .ensures .0, at-mask .before .before .scaled .ensures .0) at (not-true (at-mask .filter-mask .result) (c .if1 .taken)) in
     filters-none (a .depth) (a .size) (a .limit) (a .blimit) (a .thresh) t m
 
 returns-2 : tie.Need-returns-2
@@ -31,9 +31,9 @@ returns-2 c =
     let a = at-args .args in
     let t = now (a .t) in
     let m : filterMask (scaled (a .depth) (a .limit)) (scaled (a .depth) (a .blimit)) t ≡ true =
-        rw (at-mask .filter-mask .ensures, at-mask .before .scaled2 .ensures .0, at-mask .before .before .scaled .ensures .0) at (not-false (at-mask .filter-mask .result) (at-if1 .if1 .left)) in
+    rw (at-mask .filter-mask .ensures, at-mask .before .scaled2 .ensures .0, at-mask .before .before .scaled .ensures .0) at (not-false (at-mask .filter-mask .result) (at-if1 .if1 .left)) in
     let f : eqb (a .size) 0 || not (flatMask (scaled (a .depth) 1) t) ≡ true =
-        rw (at-flat .flat-mask .ensures, at-flat .before .scaled3 .ensures .0) at (at-if2 .if2 .taken) in
+    rw (at-flat .flat-mask .ensures, at-flat .before .scaled3 .ensures .0) at (at-if2 .if2 .taken) in
     (rw (at-hev .hev-mask .ensures, at-hev .before .scaled4 .ensures .0) at (c .narrow-filter .ensures))
     ∙ filters-narrow (a .depth) (a .size) (a .limit) (a .blimit) (a .thresh) t m f
 
@@ -49,11 +49,11 @@ returns-3 c =
     let a = at-args .args in
     let t = now (a .t) in
     let m : filterMask (scaled (a .depth) (a .limit)) (scaled (a .depth) (a .blimit)) t ≡ true =
-        rw (at-mask .filter-mask .ensures, at-mask .before .scaled2 .ensures .0, at-mask .before .before .scaled .ensures .0) at (not-false (at-mask .filter-mask .result) (at-if1 .if1 .left)) in
+    rw (at-mask .filter-mask .ensures, at-mask .before .scaled2 .ensures .0, at-mask .before .before .scaled .ensures .0) at (not-false (at-mask .filter-mask .result) (at-if1 .if1 .left)) in
     let f : eqb (a .size) 0 || not (flatMask (scaled (a .depth) 1) t) ≡ false =
-        rw (at-flat .flat-mask .ensures, at-flat .before .scaled3 .ensures .0) at (at-if2 .if2 .left) in
+    rw (at-flat .flat-mask .ensures, at-flat .before .scaled3 .ensures .0) at (at-if2 .if2 .left) in
     let g : eqb (a .size) 1 || not (flatMask2 (scaled (a .depth) 1) t) ≡ true =
-        rw (at-flat2 .flat-mask2 .ensures, at-flat2 .before .scaled5 .ensures .0) at (at-if3 .if3 .taken) in
+    rw (at-flat2 .flat-mask2 .ensures, at-flat2 .before .scaled5 .ensures .0) at (at-if3 .if3 .taken) in
     c .wide-filter-six .ensures ∙ filters-six (a .depth) (a .size) (a .limit) (a .blimit) (a .thresh) t m f g
 
 returns-4 : tie.Need-returns-4
@@ -68,11 +68,11 @@ returns-4 c =
     let a = at-args .args in
     let t = now (a .t) in
     let m : filterMask (scaled (a .depth) (a .limit)) (scaled (a .depth) (a .blimit)) t ≡ true =
-        rw (at-mask .filter-mask .ensures, at-mask .before .scaled2 .ensures .0, at-mask .before .before .scaled .ensures .0) at (not-false (at-mask .filter-mask .result) (at-if1 .if1 .left)) in
+    rw (at-mask .filter-mask .ensures, at-mask .before .scaled2 .ensures .0, at-mask .before .before .scaled .ensures .0) at (not-false (at-mask .filter-mask .result) (at-if1 .if1 .left)) in
     let f : eqb (a .size) 0 || not (flatMask (scaled (a .depth) 1) t) ≡ false =
-        rw (at-flat .flat-mask .ensures, at-flat .before .scaled3 .ensures .0) at (at-if2 .if2 .left) in
+    rw (at-flat .flat-mask .ensures, at-flat .before .scaled3 .ensures .0) at (at-if2 .if2 .left) in
     let g : eqb (a .size) 1 || not (flatMask2 (scaled (a .depth) 1) t) ≡ false =
-        rw (at-flat2 .flat-mask2 .ensures, at-flat2 .before .scaled5 .ensures .0) at (at-if3 .if3 .left) in
+    rw (at-flat2 .flat-mask2 .ensures, at-flat2 .before .scaled5 .ensures .0) at (at-if3 .if3 .left) in
     c .wide-filter-fourteen .ensures ∙ filters-fourteen (a .depth) (a .size) (a .limit) (a .blimit) (a .thresh) t m f g
 
 pub sample-filtering-unchecked-spec : {M : Type 1} → statement M

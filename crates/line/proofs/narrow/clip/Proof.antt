@@ -27,9 +27,9 @@ returns x =
     let half = x .before .offset .result in
     let far : Far half = record { far = omega arith } in
     let read : x .clip3 .result ≡ Clip3 (pos 0 -ℤ half) (half -ℤ pos 1) (a .args .v) =
-        rw (minus-read (pos 0) half (record { far = omega arith }) far, minus-read half (pos 1) far (record { far = omega arith }), toZ-ofZ (a .fits .v)) at (x .clip3 .ensures) in
+    rw (minus-read (pos 0) half (record { far = omega arith }) far, minus-read half (pos 1) far (record { far = omega arith }), toZ-ofZ (a .fits .v)) at (x .clip3 .ensures) in
     let same : x .clip3 .result ≡ c (a .args .depth) (a .args .v) =
-        (rw (x .before .offset .ensures .0) at read) ∙ c-is (a .args .depth) (a .pre) (a .args .v) in
+    (rw (x .before .offset .ensures .0) at read) ∙ c-is (a .args .depth) (a .pre) (a .args .v) in
     let s = depth-scaled (a .args .depth) (a .pre) in
     rw (back w32 (x .clip3 .ok), same) (refl, omega (arith, c-small (a .args .depth) (a .pre) (a .args .v)))
 
