@@ -3,10 +3,10 @@
 use mathlib.Core.Path.{_≡_, refl, sym, _∙_}
 use mathlib.Core.List.{List, _++_, append-nil}
 use Prim.Native.Nat.{ℕ, suc, _+_, _≤_, _<_}
-use native.Mathlib.Nat.{le-of-lt, le-refl}
+use native.Mathlib.Nat.{le-of-lt}
 use native.Mathlib.Numerals.{add-one}
-use lib.ListN.{length, getD, set, take, drop, drop-of-length-le, take-append-drop}
-use lib.Seq.{drop-cons, set-at, take-suc, append-snoc, length-take-le, take-take}
+use lib.ListN.{length, getD, set, take, drop, drop-of-length-le}
+use lib.Seq.{drop-cons, set-at, take-suc, append-snoc, length-take-le}
 
 module _ {A : Type 0} where
   -- the list d with its first n entries replaced by those of s
@@ -25,7 +25,3 @@ module _ {A : Type 0} where
   -- all of d replaced
   pub copied-whole : (s d : List A) (n : ℕ) → length d ≤ n → copied s n d ≡ take n s
   copied-whole s d n h = rw (drop-of-length-le d h) (append-nil (take n s))
-
-  -- a list with its own first entries
-  pub copied-own : (d : List A) (n : ℕ) → copied (take n d) n d ≡ d
-  copied-own d n = rw (take-take n n d (le-refl n)) (take-append-drop n d)

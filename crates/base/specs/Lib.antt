@@ -1,7 +1,6 @@
 pub mod Notation
 pub mod NotationLaws
 pub mod Outcome
-pub mod OutcomeLaws
 pub mod Entries
 pub mod Filled
 pub mod Copied

@@ -13,11 +13,6 @@ abbrev pub refuse : {A : Type 0} → Bool → ℕ → ℕ → Outcome A → Outc
 refuse true number place after = refused number place
 refuse false number place after = after
 
--- the same, with something made of the result
-abbrev pub onAccepted : {A B : Type 0} → (A → B) → Outcome A → Outcome B
-onAccepted f (accepted a) = accepted (f a)
-onAccepted f (refused number place) = refused number place
-
 -- what is held after the operation: its result, or what was held before where it was refused
 abbrev pub held : {A : Type 0} → Outcome A → A → A
 held (accepted a) before = a

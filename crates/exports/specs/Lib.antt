@@ -1,4 +1,3 @@
 pub mod Border
 pub mod LevelEntry
 pub mod StrengthEntry
-pub mod LineEntry

@@ -4,7 +4,7 @@ ghost use mathlib.Core.Bool.{true};
 ghost use Prim.Native.Nat.{_<_};
 ghost use Rattle.base.specs.Depth.{supported, scaled};
 
-pub fn is_supported(depth: u8) -> bool
+pub(crate) fn is_supported(depth: u8) -> bool
     ensures { λ r. ⌜ r ≡ supported depth ⌝ }
 {
     (depth == 8) | (depth == 10) | (depth == 12)

@@ -8,7 +8,7 @@ ghost use Rattle.base.specs.Outcome.{Answers};
 ghost use Rattle.line.specs.SampleFiltering.{sampleFiltering};
 ghost use Rattle.line.specs.Line.{reaches, line, returnedOf};
 
-pub mod depth;
+mod depth;
 mod masks;
 mod narrow;
 mod taps;

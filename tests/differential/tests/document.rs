@@ -152,13 +152,13 @@ fn lines() {
     }
 }
 
-/// The first `length` of `samples` are refused, and all of them are left.
-fn line_refused(samples: &[u16], length: usize, depth: u8, size: u8, number: u32, place: u32) {
-    let mut after = samples.to_vec();
-    let returned = line_into(&mut after[..length], depth, size, strength_32());
-    let call = format!("depth {depth}, size {size}, {length} of {samples:?}");
-    assert_eq!(returned, Returned { number, place }, "{call}");
-    assert_eq!(after, samples, "{call}");
+/// The line is refused, and its samples are left.
+fn line_refused(taps: [u16; 16], depth: u8, size: u8, number: u32, place: u32) {
+    let mut after = taps;
+    let refused = line(&mut after, depth, size, strength_32());
+    let call = format!("depth {depth}, size {size}, {taps:?}");
+    assert_eq!(refused, Err(Refused { number, place }), "{call}");
+    assert_eq!(after, taps, "{call}");
 }
 
 #[test]
@@ -167,7 +167,7 @@ fn line_depths() {
         if matches!(depth, 8 | 10 | 12) {
             assert_eq!(line(&mut STEP.clone(), depth, 2, strength_32()), Ok(()));
         } else {
-            line_refused(&STEP, 16, depth, 2, 2, 0);
+            line_refused(STEP, depth, 2, 2, 0);
         }
     }
 }
@@ -178,7 +178,7 @@ fn line_sizes() {
         if size <= 2 {
             assert_eq!(line(&mut STEP.clone(), 8, size, strength_32()), Ok(()));
         } else {
-            line_refused(&STEP, 16, 8, size, 15, 0);
+            line_refused(STEP, 8, size, 15, 0);
         }
     }
 }
@@ -191,49 +191,25 @@ fn line_samples() {
             assert_eq!(line(&mut taps, depth, 0, strength_32()), Ok(()));
             for sample in [top + 1, 32768, 65535] {
                 let place = tap as u32;
-                line_refused(&with(STEP, tap, &[sample]), 16, depth, 0, 13, place);
+                line_refused(with(STEP, tap, &[sample]), depth, 0, 13, place);
                 let behind = with(STEP, tap, &[sample; 16][tap..]);
-                line_refused(&behind, 16, depth, 0, 13, place);
+                line_refused(behind, depth, 0, 13, place);
             }
         }
-    }
-}
-
-#[test]
-fn lines_too_short() {
-    for length in 0..16 {
-        line_refused(&STEP, length, 8, 0, 7, 0);
     }
 }
 
 /// Of several refusals the lowest number is returned.
 #[test]
 fn lines_refused() {
-    for faults in 1..16 {
-        let [depth, short, sample, size] = [1, 2, 4, 8].map(|fault| faults & fault != 0);
-        let (number, place) = match (depth, short, sample) {
-            (true, _, _) => (2, 0),
-            (_, true, _) => (7, 0),
-            (_, _, true) => (13, 3),
+    for faults in 1..8 {
+        let [depth, sample, size] = [1, 2, 4].map(|fault| faults & fault != 0);
+        let (number, place) = match (depth, sample) {
+            (true, _) => (2, 0),
+            (_, true) => (13, 3),
             _ => (15, 0),
         };
         let taps = if sample { with(STEP, 3, &[65535]) } else { STEP };
-        let length = if short { 15 } else { 16 };
-        line_refused(&taps, length, 8 + u8::from(depth), 2 + u8::from(size), number, place);
-    }
-}
-
-#[test]
-fn lines_long_enough() {
-    let mut alone = STEP;
-    assert_eq!(line(&mut alone, 8, 2, strength_32()), Ok(()));
-    assert_ne!(alone, STEP);
-    // What stands behind the 16 is not tested.
-    for length in 16..=20 {
-        let mut samples = [65535; 20];
-        samples[..16].copy_from_slice(&STEP);
-        assert_eq!(line_into(&mut samples[..length], 8, 2, strength_32()), ACCEPTED);
-        assert_eq!(samples[..16], alone);
-        assert_eq!(samples[16..], [65535; 4]);
+        line_refused(taps, 8 + u8::from(depth), 2 + u8::from(size), number, place);
     }
 }

@@ -2,7 +2,7 @@
 #![cfg(oracle)]
 
 use differential::{lines::Line, random::Random, rust, say};
-use springspade::{Returned, line, line_into};
+use springspade::line;
 
 /// Lines of each arm: none, narrow, six, fourteen.
 type Arms = [usize; 4];
@@ -26,23 +26,19 @@ fn lines_equal() {
 }
 
 fn compare(lines: usize, seed: u64) -> Arms {
-    /// Samples behind the 16, above every depth.
-    const BEHIND: [u16; 4] = [0xffff; 4];
     let mut random = Random(seed);
     let mut arms = Arms::default();
     for _ in 0..lines {
         let case = Line::random(&mut random);
-        let mut samples = [0xffff; 20];
-        samples[..16].copy_from_slice(&case.taps);
-        let returned = line_into(&mut samples, case.depth, case.size, case.strength);
-        assert_eq!(returned, Returned { number: 0, place: 0 }, "{case:?}");
-        assert_eq!(samples[16..], BEHIND, "{case:?}");
+        // A sample before the line and one behind it, which are not its own.
+        let mut samples = [0xffff; 18];
+        let taps: &mut [u16; 16] = (&mut samples[1..17]).try_into().unwrap();
+        *taps = case.taps;
+        assert_eq!(line(taps, case.depth, case.size, case.strength), Ok(()), "{case:?}");
         for (way, expected) in rust::line(&case).iter().enumerate() {
-            assert_eq!(samples[..16], *expected, "way {way}, {case:?}");
+            assert_eq!(taps, expected, "way {way}, {case:?}");
         }
-        let mut safe = case.taps;
-        assert_eq!(line(&mut safe, case.depth, case.size, case.strength), Ok(()), "{case:?}");
-        assert_eq!(safe, samples[..16], "{case:?}");
+        assert_eq!([samples[0], samples[17]], [0xffff; 2], "{case:?}");
         arms[case.arm() as usize] += 1;
     }
     arms

@@ -32,9 +32,8 @@ mod c {
         ) -> Returned;
         pub safe fn springspade_strength(lvl: u8, sharpness: u8) -> Strength;
         pub safe fn springspade_mode_type(mode: u8) -> usize;
-        pub fn springspade_line(
-            taps: *mut u16,
-            taps_len: usize,
+        pub safe fn springspade_line(
+            taps: &mut [u16; 16],
             depth: u8,
             size: u8,
             limit: u8,
@@ -182,15 +181,6 @@ pub fn mode_type(mode: u8) -> usize {
 /// Filters one line of samples, p7 to p0 and q0 to q7.
 #[inline]
 pub fn line(taps: &mut [u16; 16], depth: u8, size: u8, strength: Strength) -> Result<(), Refused> {
-    line_into(taps, depth, size, strength).accepted()
-}
-
-/// Filters the line in the first 16 of `taps`.
-#[inline]
-pub fn line_into(taps: &mut [u16], depth: u8, size: u8, strength: Strength) -> Returned {
     let Strength { limit, blimit, thresh } = strength;
-    // SAFETY: the pointer goes with the length of its slice.
-    unsafe {
-        c::springspade_line(taps.as_mut_ptr(), taps.len(), depth, size, limit, blimit, thresh)
-    }
+    c::springspade_line(taps, depth, size, limit, blimit, thresh).accepted()
 }

@@ -4,7 +4,7 @@ use crate::row::{nanoseconds, row};
 use differential::lines::{Arm, Line, taps};
 use differential::random::Random;
 use oracle::superblock_loop_filter::hook_lanes;
-use springspade::{Strength, line_into};
+use springspade::{Strength, line};
 use std::hint::black_box;
 
 const RUNS: usize = 300;
@@ -38,8 +38,8 @@ fn lines(name: &str, depth: u8, size: u8, arms: &[Arm], lanes: usize) {
     let run_ours = || {
         ours.copy_from_slice(&before);
         nanoseconds(|| {
-            for taps in ours.chunks_exact_mut(16) {
-                black_box(line_into(taps, depth, size, strength));
+            for taps in ours.as_chunks_mut().0 {
+                let _ = black_box(line(taps, depth, size, strength));
             }
         })
     };
