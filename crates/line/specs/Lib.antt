@@ -3,7 +3,9 @@ pub mod Masks
 pub mod NarrowFilter
 pub mod NarrowFilterLaws
 pub mod WideFilter
+pub mod WideSums
 pub mod WideFilterLaws
+pub mod MasksLaws
 pub mod SampleFiltering
 pub mod SampleFilteringLaws
 pub mod Line

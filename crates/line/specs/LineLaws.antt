@@ -6,12 +6,13 @@ use mathlib.Core.List.{List}
 use Prim.Native.Nat.{ℕ, _^_, _≤_, _<_}
 use native.Mathlib.Omega.{arith}
 use lib.Dec.{ltb}
-use borrow.Author.Tests.{lt-ltb, le-ltb}
+use borrow.Author.Tests.{lt-ltb, le-ltb, lt-leb}
 use Rattle.base.specs.Depth.{supported}
-use Rattle.base.specs.First.{first, found, first-small}
+use Rattle.base.specs.First.{first, found, found-none, first-small}
 use Rattle.base.specs.Outcome.{accepted, refused, refuse, returned}
 use Rattle.line.specs.Line.{reaches, line}
 use Rattle.line.specs.SampleFiltering.{sampleFiltering}
+use Rattle.line.specs.Taps.{tap, Within}
 
 module _ (depth size limit blimit thresh : ℕ) (t : List ℕ) where
   pub line-depth : supported depth ≡ false → line depth size limit blimit thresh t ≡ refused 2 0
@@ -31,6 +32,11 @@ module _ (depth size limit blimit thresh : ℕ) (t : List ℕ) where
       pub line-filtered : size ≤ 2 → line depth size limit blimit thresh t ≡ accepted (sampleFiltering depth size limit blimit thresh t)
       unfolding line
       line-filtered h = rw (d, s, le-ltb 2 size h)
+
+  -- a line in range of size at most 2 is accepted
+  pub line-accepted : supported depth ≡ true → Within (2 ^ depth) t → size ≤ 2 → line depth size limit blimit thresh t ≡ accepted (sampleFiltering depth size limit blimit thresh t)
+  line-accepted d w h =
+      line-filtered d (found-none (reaches (2 ^ depth) t) 16 (λ k p. lt-leb (2 ^ depth) (tap t k) (w .below k p))) h
 
   -- a place is a tap's, or 0
   pub line-place : returned (line depth size limit blimit thresh t) .place ≤ 16

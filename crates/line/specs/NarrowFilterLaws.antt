@@ -1,17 +1,23 @@
 -- Laws of the narrow filter's numbers.
 -- Assumes nothing.
-use mathlib.Core.Path.{_≡_, refl}
-use mathlib.Core.Bool.{true}
-use Prim.Native.Nat.{ℕ, zero, suc, _-_, _*_, _^_, _≤_, _<_}
+use mathlib.Core.Path.{_≡_, _∙_}
+use mathlib.Core.List.{List}
+use mathlib.Core.Logic.{_⊎_, ⊎-elim}
+use mathlib.Core.Bool.{Bool, true, false, cond}
+use Prim.Native.Nat.{ℕ, zero, suc, _+_, _-_, _*_, _^_, _≤_, _<_}
 use native.Mathlib.Omega.{arith}
 use lib.Dec.{T}
 use lib.IntN.{ℤ, pos, negsuc, negℤ, natAbs, _+ℤ_, _-ℤ_, +ℤ-idl}
+use lib.ListN.{length, set, length-set}
+use lib.Seq.{getD-set-other}
 use lib.Signed.{mag, nonNeg}
 use borrow.Author.Tests.{le-ltb}
 use Rattle.base.specs.Depth.{supported, Scaled, depth-scaled}
+use Rattle.base.specs.Filled.{set-below, set-agree}
 use Rattle.base.specs.Notation.{Clip3}
 use Rattle.base.specs.NotationLaws.{mag-clip}
-use Rattle.line.specs.NarrowFilter.{c, offset, sample}
+use Rattle.line.specs.NarrowFilter.{c, offset, sample, narrowFilter}
+use Rattle.line.specs.Taps.{tap, Within, Agree, agree-p, agree-q}
 
 neg-small : (n m : ℕ) → 0 < n → n ≤ m → mag (negℤ (pos n)) < m
 neg-small (suc n) m p q = q
@@ -50,3 +56,72 @@ module _ (B : ℕ) (known : supported B ≡ true) where
       let s = depth-scaled B known in
       let small = raised-small (c B v) (128 * 2 ^ (B - 8)) (c-small v) in
       omega arith
+
+-- ---- the line
+
+-- whatever the four samples are
+stored : Bool → List ℕ → ℕ → ℕ → ℕ → ℕ → List ℕ
+stored hev t q0 p0 q1 p1 = cond hev (set (set t 8 q0) 7 p0) (set (set (set (set t 8 q0) 7 p0) 9 q1) 6 p1)
+
+stored-length : (hev : Bool) (t : List ℕ) (q0 p0 q1 p1 : ℕ) → length (stored hev t q0 p0 q1 p1) ≡ length t
+unfolding stored
+stored-length true t q0 p0 q1 p1 = simp length-set
+stored-length false t q0 p0 q1 p1 = simp length-set
+
+stored-below : (b : ℕ) (hev : Bool) (t : List ℕ) (q0 p0 q1 p1 k : ℕ) → q0 < b → p0 < b → q1 < b → p1 < b → tap t k < b → tap (stored hev t q0 p0 q1 p1) k < b
+unfolding stored
+stored-below b hev t q0 p0 q1 p1 k hq0 hp0 hq1 hp1 h = cases hev
+  where
+    inner : tap (set (set t 8 q0) 7 p0) k < b
+    inner = set-below b (set t 8 q0) 7 p0 k hp0 (set-below b t 8 q0 k hq0 h)
+
+    cases : (hev : Bool) → tap (cond hev (set (set t 8 q0) 7 p0) (set (set (set (set t 8 q0) 7 p0) 9 q1) 6 p1)) k < b
+    cases true = inner
+    cases false = set-below b (set (set (set t 8 q0) 7 p0) 9 q1) 6 p1 k hp1 (set-below b (set (set t 8 q0) 7 p0) 9 q1 k hq1 inner)
+
+-- a place outside n taps of each side is none of theirs
+outside : (n k i : ℕ) → (k + n < 8) ⊎ (8 + n ≤ k) → 8 ≤ i + n → i < 8 + n → k ≡ i → ⊥
+outside n k i h p q e = ⊎-elim (λ (g : k + n < 8). omega arith) (λ (g : 8 + n ≤ k). omega arith) h
+
+stored-kept : (hev : Bool) (t : List ℕ) (q0 p0 q1 p1 k : ℕ) → (k + cond hev 1 2 < 8) ⊎ (8 + cond hev 1 2 ≤ k) → tap (stored hev t q0 p0 q1 p1) k ≡ tap t k
+unfolding stored
+stored-kept true t q0 p0 q1 p1 k h =
+    getD-set-other (set t 8 q0) 7 k p0 0 (outside 1 k 7 h (omega arith) (omega arith))
+    ∙ getD-set-other t 8 k q0 0 (outside 1 k 8 h (omega arith) (omega arith))
+stored-kept false t q0 p0 q1 p1 k h =
+    getD-set-other (set (set (set t 8 q0) 7 p0) 9 q1) 6 k p1 0 (outside 2 k 6 h (omega arith) (omega arith))
+    ∙ getD-set-other (set (set t 8 q0) 7 p0) 9 k q1 0 (outside 2 k 9 h (omega arith) (omega arith))
+    ∙ getD-set-other (set t 8 q0) 7 k p0 0 (outside 2 k 7 h (omega arith) (omega arith))
+    ∙ getD-set-other t 8 k q0 0 (outside 2 k 8 h (omega arith) (omega arith))
+
+stored-agree : (hev : Bool) (t u : List ℕ) (q0 p0 q1 p1 k : ℕ) → length t ≡ length u → tap t k ≡ tap u k → tap (stored hev t q0 p0 q1 p1) k ≡ tap (stored hev u q0 p0 q1 p1) k
+unfolding stored
+stored-agree hev t u q0 p0 q1 p1 k e h = cases hev
+  where
+    inner : tap (set (set t 8 q0) 7 p0) k ≡ tap (set (set u 8 q0) 7 p0) k
+    inner = set-agree (set t 8 q0) (set u 8 q0) 7 p0 k (simp length-set e) (set-agree t u 8 q0 k e h)
+
+    cases : (hev : Bool) → tap (cond hev (set (set t 8 q0) 7 p0) (set (set (set (set t 8 q0) 7 p0) 9 q1) 6 p1)) k ≡ tap (cond hev (set (set u 8 q0) 7 p0) (set (set (set (set u 8 q0) 7 p0) 9 q1) 6 p1)) k
+    cases true = inner
+    cases false =
+        set-agree (set (set (set t 8 q0) 7 p0) 9 q1) (set (set (set u 8 q0) 7 p0) 9 q1) 6 p1 k (simp length-set e)
+        (set-agree (set (set t 8 q0) 7 p0) (set (set u 8 q0) 7 p0) 9 q1 k (simp length-set e) inner)
+
+pub narrow-length : (B : ℕ) (hev : Bool) (t : List ℕ) → length (narrowFilter B hev t) ≡ length t
+unfolding narrowFilter stored
+narrow-length B hev t = stored-length hev t _ _ _ _
+
+pub narrow-below : (B : ℕ) (hev : Bool) (t : List ℕ) → supported B ≡ true → Within (2 ^ B) t → Within (2 ^ B) (narrowFilter B hev t)
+unfolding narrowFilter stored
+narrow-below B hev t known w =
+    record { below = λ k h. stored-below (2 ^ B) hev t _ _ _ _ k (sample-below B known _) (sample-below B known _) (sample-below B known _) (sample-below B known _) (w .below k h) }
+
+-- p0 and q0 change, and where the variance is not high p1 and q1
+pub narrow-kept : (B : ℕ) (hev : Bool) (t : List ℕ) (k : ℕ) → (k + cond hev 1 2 < 8) ⊎ (8 + cond hev 1 2 ≤ k) → tap (narrowFilter B hev t) k ≡ tap t k
+unfolding narrowFilter stored
+narrow-kept B hev t k h = stored-kept hev t _ _ _ _ k h
+
+pub narrow-agree : (B : ℕ) (hev : Bool) (r : ℕ) (t u : List ℕ) → 2 ≤ r → length t ≡ length u → Agree r t u → Agree r (narrowFilter B hev t) (narrowFilter B hev u)
+unfolding narrowFilter stored
+narrow-agree B hev r t u h e a =
+    record { same = λ k p q. rw (agree-p r t u 0 a (omega arith) (omega arith), agree-p r t u 1 a (omega arith) (omega arith), agree-q r t u 0 a (omega arith), agree-q r t u 1 a (omega arith)) (stored-agree hev t u _ _ _ _ k e (a .same k p q)) }

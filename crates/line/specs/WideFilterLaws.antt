@@ -1,66 +1,112 @@
--- The sums of the wide filter written out, as the code forms them: x is the side of the sample that changes and y the
--- other side, each counted from the edge.
+-- Laws of the wide filter: how many samples it leaves, in which range, which it keeps, and which it reads.
 -- Assumes nothing.
-use mathlib.Core.Path.{_≡_, refl}
+use mathlib.Core.Path.{_≡_, refl, ap}
+use mathlib.Core.Bool.{Bool, true, false, cond}
 use mathlib.Core.List.{List}
-use Prim.Native.Nat.{ℕ, _+_, _*_, _/_}
+use mathlib.Core.Logic.{_⊎_, inl, inr, ⊎-elim}
+use Prim.Native.Nat.{ℕ, zero, suc, _+_, _-_, _*_, _≤_, _<_}
+use native.Mathlib.Nat.{mul-suc}
 use native.Mathlib.Omega.{arith}
-use lib.IntN.{pos, negsuc}
-use lib.ListN.{set}
-use Rattle.base.specs.Filled.{filled}
-use Rattle.base.specs.Notation.{Clip3, Round2}
-use Rattle.line.specs.Taps.{p, q}
-use Rattle.line.specs.WideFilter.{sumTo, smoothed, wideFilter}
+use lib.Dec.{eqb, ltb}
+use lib.IntN.{ℤ, pos, negsuc, _+ℤ_, _-ℤ_}
+use lib.ListN.{length}
+use lib.Signed.{mag}
+use borrow.Author.Tests.{lt-ltb, le-ltb, eq-eqb, ne-eqb}
+use Rattle.base.specs.Filled.{filled, length-filled, filled-other, filled-below, filled-agree}
+use Rattle.base.specs.Notation.{Clip3}
+use Rattle.base.specs.NotationLaws.{split, mag-clip}
+use Rattle.line.specs.Taps.{tap, F, Within, Agree, agree-less}
+use Rattle.line.specs.WideFilter.{reach, sumTo, smoothed, wideFilter}
 
--- x0, x1 and x2 of six samples
-abbrev pub six0 : ℕ → ℕ → ℕ → ℕ → ℕ → ℕ → ℕ → ℕ
-six0 x3 x2 x1 x0 y0 y1 y2 = Round2 (x3 + x2 + x1 + 2 * x0 + y0 + y1 + y2) 3
+-- ---- the samples that a sum reads
 
-abbrev pub six1 : ℕ → ℕ → ℕ → ℕ → ℕ → ℕ → ℕ
-six1 x3 x2 x1 x0 y0 y1 = Round2 (2 * x3 + x2 + 2 * x1 + x0 + y0 + y1) 3
+F-below : (b n : ℕ) (t : List ℕ) → n ≤ 7 → Within b t → (z : ℤ) → mag z < suc n → F t z < b
+F-below b n t h w (pos k) m = w .below (8 + k) (omega arith)
+F-below b n t h w (negsuc k) m = w .below (7 - k) (omega arith)
 
-abbrev pub six2 : ℕ → ℕ → ℕ → ℕ → ℕ → ℕ
-six2 x3 x2 x1 x0 y0 = Round2 (3 * x3 + 2 * x2 + x1 + x0 + y0) 3
+F-agree : (n : ℕ) (t u : List ℕ) → n ≤ 7 → Agree (suc n) t u → (z : ℤ) → mag z < suc n → F t z ≡ F u z
+F-agree n t u h a (pos k) m = a .same (8 + k) (omega arith) (omega arith)
+F-agree n t u h a (negsuc k) m = a .same (7 - k) (omega arith) (omega arith)
 
--- x0 to x6 of fourteen
-abbrev pub fourteen0 : ℕ → ℕ → ℕ → ℕ → ℕ → ℕ → ℕ → ℕ → ℕ → ℕ → ℕ → ℕ → ℕ → ℕ → ℕ → ℕ
-fourteen0 x7 x6 x5 x4 x3 x2 x1 x0 y0 y1 y2 y3 y4 y5 y6 = Round2 (x7 + x6 + x5 + x4 + x3 + x2 + x1 + 2 * x0 + y0 + y1 + y2 + y3 + y4 + y5 + y6) 4
+clipped : (n : ℕ) (z : ℤ) → mag (Clip3 (negsuc n) (pos n) z) < suc n
+clipped n z = mag-clip (negsuc n) (pos n) z (omega arith) (omega arith)
 
-abbrev pub fourteen1 : ℕ → ℕ → ℕ → ℕ → ℕ → ℕ → ℕ → ℕ → ℕ → ℕ → ℕ → ℕ → ℕ → ℕ → ℕ
-fourteen1 x7 x6 x5 x4 x3 x2 x1 x0 y0 y1 y2 y3 y4 y5 = Round2 (2 * x7 + x6 + x5 + x4 + x3 + x2 + 2 * x1 + x0 + y0 + y1 + y2 + y3 + y4 + y5) 4
+-- ---- sums
 
-abbrev pub fourteen2 : ℕ → ℕ → ℕ → ℕ → ℕ → ℕ → ℕ → ℕ → ℕ → ℕ → ℕ → ℕ → ℕ → ℕ
-fourteen2 x7 x6 x5 x4 x3 x2 x1 x0 y0 y1 y2 y3 y4 = Round2 (3 * x7 + x6 + x5 + x4 + x3 + 2 * x2 + x1 + x0 + y0 + y1 + y2 + y3 + y4) 4
+module _ (b n : ℕ) (t : List ℕ) (i : ℤ) (h : n ≤ 7) (w : Within b t) where
+  term : (m : ℕ) → F t (Clip3 (negsuc n) (pos n) (i +ℤ (pos m -ℤ pos n))) < b
+  term m = let z = i +ℤ (pos m -ℤ pos n) in F-below b n t h w (Clip3 (negsuc n) (pos n) z) (clipped n z)
 
-abbrev pub fourteen3 : ℕ → ℕ → ℕ → ℕ → ℕ → ℕ → ℕ → ℕ → ℕ → ℕ → ℕ → ℕ → ℕ
-fourteen3 x7 x6 x5 x4 x3 x2 x1 x0 y0 y1 y2 y3 = Round2 (4 * x7 + x6 + x5 + x4 + 2 * x3 + x2 + x1 + x0 + y0 + y1 + y2 + y3) 4
+  -- up to the middle term
+  sum-low : (m : ℕ) → m ≤ n → sumTo n t i m + m ≤ b * m
+  unfolding sumTo
+  sum-low zero g = omega arith
+  sum-low (suc m) g =
+      let other : m ≡ n → ⊥ = λ e. omega arith in
+      rw (ne-eqb m n other) (omega (arith, sum-low m (omega arith), term m, mul-suc b m))
 
-abbrev pub fourteen4 : ℕ → ℕ → ℕ → ℕ → ℕ → ℕ → ℕ → ℕ → ℕ → ℕ → ℕ → ℕ
-fourteen4 x7 x6 x5 x4 x3 x2 x1 x0 y0 y1 y2 = Round2 (5 * x7 + x6 + x5 + 2 * x4 + x3 + x2 + x1 + x0 + y0 + y1 + y2) 4
+  -- and past it, which counts twice
+  sum-high : (m : ℕ) → n < m → sumTo n t i m + suc m ≤ b * suc m
+  unfolding sumTo
+  sum-high (suc m) g =
+      ⊎-elim
+      (λ (q : n < m).
+      let other : m ≡ n → ⊥ = λ e. omega arith in
+      rw (ne-eqb m n other) (omega (arith, sum-high m q, term m, mul-suc b (suc m))))
+      (λ (q : m ≤ n).
+      rw (eq-eqb m n (omega arith))
+      (omega (arith, sum-low m q, term m, mul-suc b m, mul-suc b (suc m))))
+      (split n m)
 
-abbrev pub fourteen5 : ℕ → ℕ → ℕ → ℕ → ℕ → ℕ → ℕ → ℕ → ℕ → ℕ → ℕ
-fourteen5 x7 x6 x5 x4 x3 x2 x1 x0 y0 y1 = Round2 (6 * x7 + x6 + 2 * x5 + x4 + x3 + x2 + x1 + x0 + y0 + y1) 4
+sum-agree : (n : ℕ) (t u : List ℕ) (i : ℤ) (m : ℕ) → n ≤ 7 → Agree (suc n) t u → sumTo n t i m ≡ sumTo n u i m
+unfolding sumTo
+sum-agree n t u i zero h a = refl
+sum-agree n t u i (suc m) h a =
+    let z = i +ℤ (pos m -ℤ pos n) in
+    rw (sum-agree n t u i m h a, F-agree n t u h a (Clip3 (negsuc n) (pos n) z) (clipped n z))
 
-abbrev pub fourteen6 : ℕ → ℕ → ℕ → ℕ → ℕ → ℕ → ℕ → ℕ → ℕ → ℕ
-fourteen6 x7 x6 x5 x4 x3 x2 x1 x0 y0 = Round2 (7 * x7 + 2 * x6 + x5 + x4 + x3 + x2 + x1 + x0 + y0) 4
+-- ---- one sample
 
-pub over : (d : ℕ) {a b : ℕ} → a ≡ b → a / d ≡ b / d
-over d e = rw e
+smoothed-below : (b : ℕ) (t : List ℕ) → Within b t → (i : ℤ) → (smoothed 3 t i < b) × (smoothed 4 t i < b)
+unfolding smoothed
+smoothed-below b t w i =
+    (omega (arith, sum-high b 3 t i (omega arith) w 7 (omega arith)), omega (arith, sum-high b 7 t i (omega arith) w 15 (omega arith)))
 
-six-sums : (t : List ℕ) → (smoothed 3 t (negsuc 2) ≡ six2 (p t 3) (p t 2) (p t 1) (p t 0) (q t 0)) × (smoothed 3 t (negsuc 1) ≡ six1 (p t 3) (p t 2) (p t 1) (p t 0) (q t 0) (q t 1)) × (smoothed 3 t (negsuc 0) ≡ six0 (p t 3) (p t 2) (p t 1) (p t 0) (q t 0) (q t 1) (q t 2)) × (smoothed 3 t (pos 0) ≡ six0 (q t 3) (q t 2) (q t 1) (q t 0) (p t 0) (p t 1) (p t 2)) × (smoothed 3 t (pos 1) ≡ six1 (q t 3) (q t 2) (q t 1) (q t 0) (p t 0) (p t 1)) × (smoothed 3 t (pos 2) ≡ six2 (q t 3) (q t 2) (q t 1) (q t 0) (p t 0))
-unfolding smoothed sumTo Clip3
-six-sums t = (over 8 (omega arith), over 8 (omega arith), over 8 (omega arith), over 8 (omega arith), over 8 (omega arith), over 8 (omega arith))
+smoothed-agree : (t u : List ℕ) (i : ℤ) → (Agree 4 t u → smoothed 3 t i ≡ smoothed 3 u i) × (Agree 8 t u → smoothed 4 t i ≡ smoothed 4 u i)
+unfolding smoothed
+smoothed-agree t u i =
+    ((λ a. rw (sum-agree 3 t u i 7 (omega arith) a)), (λ a. rw (sum-agree 7 t u i 15 (omega arith) a)))
 
--- the six samples, stored in turn
-pub wide-six : (t : List ℕ) (a2 a1 a0 b0 b1 b2 : ℕ) → a2 ≡ six2 (p t 3) (p t 2) (p t 1) (p t 0) (q t 0) → a1 ≡ six1 (p t 3) (p t 2) (p t 1) (p t 0) (q t 0) (q t 1) → a0 ≡ six0 (p t 3) (p t 2) (p t 1) (p t 0) (q t 0) (q t 1) (q t 2) → b0 ≡ six0 (q t 3) (q t 2) (q t 1) (q t 0) (p t 0) (p t 1) (p t 2) → b1 ≡ six1 (q t 3) (q t 2) (q t 1) (q t 0) (p t 0) (p t 1) → b2 ≡ six2 (q t 3) (q t 2) (q t 1) (q t 0) (p t 0) → set (set (set (set (set (set t 5 a2) 6 a1) 7 a0) 8 b0) 9 b1) 10 b2 ≡ wideFilter 3 t
-unfolding wideFilter filled
-wide-six t a2 a1 a0 b0 b1 b2 ea2 ea1 ea0 eb0 eb1 eb2 = let (sa2, sa1, sa0, sb0, sb1, sb2) = six-sums t in rw (ea2, ea1, ea0, eb0, eb1, eb2, sa2, sa1, sa0, sb0, sb1, sb2)
+-- ---- the line
 
-fourteen-sums : (t : List ℕ) → (smoothed 4 t (negsuc 6) ≡ fourteen6 (p t 7) (p t 6) (p t 5) (p t 4) (p t 3) (p t 2) (p t 1) (p t 0) (q t 0)) × (smoothed 4 t (negsuc 5) ≡ fourteen5 (p t 7) (p t 6) (p t 5) (p t 4) (p t 3) (p t 2) (p t 1) (p t 0) (q t 0) (q t 1)) × (smoothed 4 t (negsuc 4) ≡ fourteen4 (p t 7) (p t 6) (p t 5) (p t 4) (p t 3) (p t 2) (p t 1) (p t 0) (q t 0) (q t 1) (q t 2)) × (smoothed 4 t (negsuc 3) ≡ fourteen3 (p t 7) (p t 6) (p t 5) (p t 4) (p t 3) (p t 2) (p t 1) (p t 0) (q t 0) (q t 1) (q t 2) (q t 3)) × (smoothed 4 t (negsuc 2) ≡ fourteen2 (p t 7) (p t 6) (p t 5) (p t 4) (p t 3) (p t 2) (p t 1) (p t 0) (q t 0) (q t 1) (q t 2) (q t 3) (q t 4)) × (smoothed 4 t (negsuc 1) ≡ fourteen1 (p t 7) (p t 6) (p t 5) (p t 4) (p t 3) (p t 2) (p t 1) (p t 0) (q t 0) (q t 1) (q t 2) (q t 3) (q t 4) (q t 5)) × (smoothed 4 t (negsuc 0) ≡ fourteen0 (p t 7) (p t 6) (p t 5) (p t 4) (p t 3) (p t 2) (p t 1) (p t 0) (q t 0) (q t 1) (q t 2) (q t 3) (q t 4) (q t 5) (q t 6)) × (smoothed 4 t (pos 0) ≡ fourteen0 (q t 7) (q t 6) (q t 5) (q t 4) (q t 3) (q t 2) (q t 1) (q t 0) (p t 0) (p t 1) (p t 2) (p t 3) (p t 4) (p t 5) (p t 6)) × (smoothed 4 t (pos 1) ≡ fourteen1 (q t 7) (q t 6) (q t 5) (q t 4) (q t 3) (q t 2) (q t 1) (q t 0) (p t 0) (p t 1) (p t 2) (p t 3) (p t 4) (p t 5)) × (smoothed 4 t (pos 2) ≡ fourteen2 (q t 7) (q t 6) (q t 5) (q t 4) (q t 3) (q t 2) (q t 1) (q t 0) (p t 0) (p t 1) (p t 2) (p t 3) (p t 4)) × (smoothed 4 t (pos 3) ≡ fourteen3 (q t 7) (q t 6) (q t 5) (q t 4) (q t 3) (q t 2) (q t 1) (q t 0) (p t 0) (p t 1) (p t 2) (p t 3)) × (smoothed 4 t (pos 4) ≡ fourteen4 (q t 7) (q t 6) (q t 5) (q t 4) (q t 3) (q t 2) (q t 1) (q t 0) (p t 0) (p t 1) (p t 2)) × (smoothed 4 t (pos 5) ≡ fourteen5 (q t 7) (q t 6) (q t 5) (q t 4) (q t 3) (q t 2) (q t 1) (q t 0) (p t 0) (p t 1)) × (smoothed 4 t (pos 6) ≡ fourteen6 (q t 7) (q t 6) (q t 5) (q t 4) (q t 3) (q t 2) (q t 1) (q t 0) (p t 0))
-unfolding smoothed sumTo Clip3
-fourteen-sums t = (over 16 (omega arith), over 16 (omega arith), over 16 (omega arith), over 16 (omega arith), over 16 (omega arith), over 16 (omega arith), over 16 (omega arith), over 16 (omega arith), over 16 (omega arith), over 16 (omega arith), over 16 (omega arith), over 16 (omega arith), over 16 (omega arith), over 16 (omega arith))
+pub wide-length : (log2Size : ℕ) (t : List ℕ) → length (wideFilter log2Size t) ≡ length t
+unfolding wideFilter
+wide-length log2Size t = length-filled _ _ _ t
 
--- the fourteen samples, stored in turn
-pub wide-fourteen : (t : List ℕ) (a6 a5 a4 a3 a2 a1 a0 b0 b1 b2 b3 b4 b5 b6 : ℕ) → a6 ≡ fourteen6 (p t 7) (p t 6) (p t 5) (p t 4) (p t 3) (p t 2) (p t 1) (p t 0) (q t 0) → a5 ≡ fourteen5 (p t 7) (p t 6) (p t 5) (p t 4) (p t 3) (p t 2) (p t 1) (p t 0) (q t 0) (q t 1) → a4 ≡ fourteen4 (p t 7) (p t 6) (p t 5) (p t 4) (p t 3) (p t 2) (p t 1) (p t 0) (q t 0) (q t 1) (q t 2) → a3 ≡ fourteen3 (p t 7) (p t 6) (p t 5) (p t 4) (p t 3) (p t 2) (p t 1) (p t 0) (q t 0) (q t 1) (q t 2) (q t 3) → a2 ≡ fourteen2 (p t 7) (p t 6) (p t 5) (p t 4) (p t 3) (p t 2) (p t 1) (p t 0) (q t 0) (q t 1) (q t 2) (q t 3) (q t 4) → a1 ≡ fourteen1 (p t 7) (p t 6) (p t 5) (p t 4) (p t 3) (p t 2) (p t 1) (p t 0) (q t 0) (q t 1) (q t 2) (q t 3) (q t 4) (q t 5) → a0 ≡ fourteen0 (p t 7) (p t 6) (p t 5) (p t 4) (p t 3) (p t 2) (p t 1) (p t 0) (q t 0) (q t 1) (q t 2) (q t 3) (q t 4) (q t 5) (q t 6) → b0 ≡ fourteen0 (q t 7) (q t 6) (q t 5) (q t 4) (q t 3) (q t 2) (q t 1) (q t 0) (p t 0) (p t 1) (p t 2) (p t 3) (p t 4) (p t 5) (p t 6) → b1 ≡ fourteen1 (q t 7) (q t 6) (q t 5) (q t 4) (q t 3) (q t 2) (q t 1) (q t 0) (p t 0) (p t 1) (p t 2) (p t 3) (p t 4) (p t 5) → b2 ≡ fourteen2 (q t 7) (q t 6) (q t 5) (q t 4) (q t 3) (q t 2) (q t 1) (q t 0) (p t 0) (p t 1) (p t 2) (p t 3) (p t 4) → b3 ≡ fourteen3 (q t 7) (q t 6) (q t 5) (q t 4) (q t 3) (q t 2) (q t 1) (q t 0) (p t 0) (p t 1) (p t 2) (p t 3) → b4 ≡ fourteen4 (q t 7) (q t 6) (q t 5) (q t 4) (q t 3) (q t 2) (q t 1) (q t 0) (p t 0) (p t 1) (p t 2) → b5 ≡ fourteen5 (q t 7) (q t 6) (q t 5) (q t 4) (q t 3) (q t 2) (q t 1) (q t 0) (p t 0) (p t 1) → b6 ≡ fourteen6 (q t 7) (q t 6) (q t 5) (q t 4) (q t 3) (q t 2) (q t 1) (q t 0) (p t 0) → set (set (set (set (set (set (set (set (set (set (set (set (set (set t 1 a6) 2 a5) 3 a4) 4 a3) 5 a2) 6 a1) 7 a0) 8 b0) 9 b1) 10 b2) 11 b3) 12 b4) 13 b5) 14 b6 ≡ wideFilter 4 t
-unfolding wideFilter filled
-wide-fourteen t a6 a5 a4 a3 a2 a1 a0 b0 b1 b2 b3 b4 b5 b6 ea6 ea5 ea4 ea3 ea2 ea1 ea0 eb0 eb1 eb2 eb3 eb4 eb5 eb6 = let (sa6, sa5, sa4, sa3, sa2, sa1, sa0, sb0, sb1, sb2, sb3, sb4, sb5, sb6) = fourteen-sums t in rw (ea6, ea5, ea4, ea3, ea2, ea1, ea0, eb0, eb1, eb2, eb3, eb4, eb5, eb6, sa6, sa5, sa4, sa3, sa2, sa1, sa0, sb0, sb1, sb2, sb3, sb4, sb5, sb6)
+reach-small : (log2Size : ℕ) → reach log2Size ≤ 7
+reach-small log2Size = cases (eqb log2Size 3)
+  where
+    cases : (b : Bool) → cond b 3 7 ≤ 7
+    cases true = omega arith
+    cases false = omega arith
+
+-- of p_k and q_k those from k = n on are kept
+pub wide-kept : (log2Size : ℕ) (t : List ℕ) (k : ℕ) → (k + reach log2Size < 8) ⊎ (8 + reach log2Size ≤ k) → tap (wideFilter log2Size t) k ≡ tap t k
+unfolding wideFilter
+wide-kept log2Size t k h =
+    let small = reach-small log2Size in
+    filled-other _ (8 - reach log2Size) (2 * reach log2Size) t k (⊎-elim (λ p. inl (omega arith)) (λ p. inr (omega arith)) h)
+
+pub wide-below : (b : ℕ) (t : List ℕ) → Within b t → Within b (wideFilter 3 t) × Within b (wideFilter 4 t)
+unfolding wideFilter
+wide-below b t w = (
+  record { below = λ k h. filled-below b _ 5 6 t k (λ j. smoothed-below b t w (pos j -ℤ pos 8) .0) (w .below k h) },
+  record { below = λ k h. filled-below b _ 1 14 t k (λ j. smoothed-below b t w (pos j -ℤ pos 8) .1) (w .below k h) },
+)
+
+pub wide-agree : (r : ℕ) (t u : List ℕ) → length t ≡ length u → Agree r t u → (4 ≤ r → Agree r (wideFilter 3 t) (wideFilter 3 u)) × (8 ≤ r → Agree r (wideFilter 4 t) (wideFilter 4 u))
+unfolding wideFilter
+wide-agree r t u e a = (
+  (λ h. record { same = λ k p q. filled-agree _ _ 5 6 t u k (λ j. smoothed-agree t u (pos j -ℤ pos 8) .0 (agree-less r 4 t u h a)) e (a .same k p q) }),
+  (λ h. record { same = λ k p q. filled-agree _ _ 1 14 t u k (λ j. smoothed-agree t u (pos j -ℤ pos 8) .1 (agree-less r 8 t u h a)) e (a .same k p q) }),
+)

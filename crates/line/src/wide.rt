@@ -1,7 +1,7 @@
 // The wide filter (8.8.5.3). Sums grow from the edge outwards, so that nothing is subtracted.
 ghost use mathlib.Core.Path.{_≡_};
 ghost use Rattle.line.specs.WideFilter.{wideFilter};
-ghost use Rattle.line.specs.WideFilterLaws.{six0, six1, six2, fourteen0, fourteen1, fourteen2, fourteen3, fourteen4, fourteen5, fourteen6};
+ghost use Rattle.line.specs.WideSums.{six0, six1, six2, fourteen0, fourteen1, fourteen2, fourteen3, fourteen4, fourteen5, fourteen6};
 use crate::taps::*;
 
 // The samples of one side that change, counted from the edge.

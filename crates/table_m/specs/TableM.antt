@@ -2,15 +2,22 @@
 -- Assumes nothing.
 use mathlib.Core.Path.{_≡_, refl}
 use mathlib.Core.Bool.{Bool, true, false}
-use mathlib.Core.List.{List, [], _∷_, map}
+use mathlib.Core.List.{List, [], _∷_, _++_, map}
 use Prim.Native.Nat.{ℕ}
 use lib.IntN.{pos}
-use lib.ListN.{replicate, set, take}
+use lib.ListN.{replicate, set, take, drop}
+use Rattle.base.specs.Depth.{supported}
 use Rattle.base.specs.Filled.{filled}
+use Rattle.base.specs.First.{found, firstFrom}
 use Rattle.base.specs.Notation.{Clip3}
 use Rattle.base.specs.Outcome.{Outcome, accepted, refused, held}
 use Rattle.levels.specs.Params.{segFeatureActive, featureAt, resolvedDelta, resolvedFrom, absent}
 use Rattle.levels.specs.Levels.{clippedLevel, lvlSeg, intraLvl, interLvl, entryLvl, segmentLvl, placeLvl, frameInit, levelTable}
+use Rattle.line.specs.Line.{line}
+use Rattle.line.specs.Masks.{hevMask, filterMask, flatAt, flatMask, flatMask2}
+use Rattle.line.specs.NarrowFilter.{c, sample, narrowFilter}
+use Rattle.line.specs.SampleFiltering.{sampleFiltering}
+use Rattle.line.specs.WideFilter.{sumTo, smoothed, wideFilter}
 use Rattle.strength.specs.Strength.{limitOf, strengthOf, strengthFor}
 use Rattle.strength.specs.declared.FilterStrength.{FilterStrength}
 use Rattle.levels.specs.declared.header.LoopFilterParams.{LoopFilterParams}
@@ -46,7 +53,19 @@ segments on =
 levels : Bool → ℕ → List ℕ
 levels on n = take n (held (levelTable header (segments on)) [])
 
--- M1 to M5 are strengths, M6 and M7 level tables
+-- all p the one, all q the other
+step : ℕ → ℕ → List ℕ
+step p q = replicate 8 p ++ replicate 8 q
+
+-- n samples of a line from place k on, filtered with the strength of level 32 at sharpness 0
+filtered : ℕ → ℕ → ℕ → ℕ → List ℕ → List ℕ
+filtered depth size k n t = numbers (strengthFor 32 0)
+  where
+    numbers : Outcome FilterStrength → List ℕ
+    numbers (accepted s) = take n (drop k (held (line depth size (s .limit) (s .blimit) (s .thresh) t) []))
+    numbers (refused number place) = []
+
+-- M1 to M5 are strengths, M6 and M7 level tables, M8 to M12 lines
 pub rows : List Row
 rows =
     row (strength 0 0) (1 ∷ 5 ∷ 0 ∷ [])
@@ -56,8 +75,13 @@ rows =
     ∷ row (strength 32 5) (4 ∷ 72 ∷ 2 ∷ [])
     ∷ row (levels false 8) (42 ∷ 40 ∷ 40 ∷ 40 ∷ 38 ∷ 38 ∷ 38 ∷ 38 ∷ [])
     ∷ row (levels true 1) (22 ∷ [])
+    ∷ row (filtered 8 0 6 4 (step 100 104)) (101 ∷ 101 ∷ 102 ∷ 103 ∷ [])
+    ∷ row (filtered 8 1 5 6 (step 100 104)) (101 ∷ 101 ∷ 102 ∷ 103 ∷ 103 ∷ 104 ∷ [])
+    ∷ row (filtered 8 2 1 14 (step 100 104)) (100 ∷ 101 ∷ 101 ∷ 101 ∷ 101 ∷ 102 ∷ 102 ∷ 102 ∷ 103 ∷ 103 ∷ 103 ∷ 103 ∷ 104 ∷ 104 ∷ [])
+    ∷ row (filtered 8 0 6 4 (set (step 100 104) 7 110)) (100 ∷ 107 ∷ 107 ∷ 104 ∷ [])
+    ∷ row (filtered 10 0 6 4 (step 400 416)) (403 ∷ 406 ∷ 410 ∷ 413 ∷ [])
     ∷ []
 
 pub table-m : map (λ (r : Row). r .given) rows ≡ map (λ (r : Row). r .stated) rows
-unfolding rows strength strengthFor strengthOf limitOf levels header segments levelTable frameInit filled placeLvl segmentLvl entryLvl intraLvl interLvl lvlSeg clippedLevel Clip3 segFeatureActive resolvedFrom resolvedDelta
+unfolding rows strength strengthFor strengthOf limitOf levels header segments levelTable frameInit filled placeLvl segmentLvl entryLvl intraLvl interLvl lvlSeg clippedLevel Clip3 segFeatureActive resolvedFrom resolvedDelta step filtered line supported found firstFrom sampleFiltering filterMask hevMask flatMask flatMask2 flatAt narrowFilter c sample wideFilter smoothed sumTo
 table-m = refl

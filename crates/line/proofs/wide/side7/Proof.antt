@@ -1,6 +1,6 @@
 use borrow.Author.Needs.{needs}
 use native.Mathlib.Omega.{arith}
-use Rattle.line.specs.WideFilterLaws.{over}
+use Rattle.line.specs.WideSums.{over}
 use Rattle.line.proofs.wide.side7.Statement.{statement}
 use Rattle.line.proofs.wide.side7.Tie as tie
 

@@ -1,6 +1,6 @@
 use borrow.Author.Needs.{needs}
 use denote.Ref.{now}
-use Rattle.line.specs.WideFilterLaws.{wide-fourteen}
+use Rattle.line.specs.WideSums.{wide-fourteen}
 use Rattle.line.proofs.wide.wide_filter_fourteen.Statement.{statement}
 use Rattle.line.proofs.wide.wide_filter_fourteen.Tie as tie
 

@@ -1,6 +1,6 @@
 use borrow.Author.Needs.{needs}
 use denote.Ref.{now}
-use Rattle.line.specs.WideFilterLaws.{wide-six}
+use Rattle.line.specs.WideSums.{wide-six}
 use Rattle.line.proofs.wide.wide_filter_six.Statement.{statement}
 use Rattle.line.proofs.wide.wide_filter_six.Tie as tie
 
