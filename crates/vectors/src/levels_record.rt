@@ -1,6 +1,7 @@
 // A record of a frame's level table, laid out as tests/differential/src/vectors.rs says.
 ghost use Prim.Native.Nat.{_<_};
 use crate::replay::Record;
+use crate::replay::unsigned16;
 use levels::header::Delta;
 use levels::header::LoopFilterParams;
 use levels::header::SegmentationParams;
@@ -21,7 +22,7 @@ fn signed8(bits: u8) -> i8 {
 }
 
 fn signed16(low: u8, high: u8) -> i16 {
-    let bits = high as u16 * 256 + low as u16;
+    let bits = unsigned16(low, high);
     if bits < 32768 {
         bits as i16
     } else {

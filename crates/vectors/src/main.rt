@@ -1,5 +1,6 @@
 // Replays the fixed test vectors of data/ and prints a line for each file.
 mod levels_record;
+mod line_record;
 mod replay;
 mod strength_record;
 
@@ -10,4 +11,5 @@ fn main() {
     replay_file(b"levels.bin", Kind::Levels);
     replay_file(b"frames.bin", Kind::Levels);
     replay_file(b"strength.bin", Kind::Strength);
+    replay_file(b"lines.bin", Kind::Line);
 }

@@ -1,6 +1,7 @@
 // Reads a file of records, counts those that the library answers as they say, and prints the count.
 ghost use Prim.Native.Nat.{_≤_};
 use crate::levels_record;
+use crate::line_record;
 use crate::strength_record;
 use libc::STDOUT_FILENO;
 
@@ -11,10 +12,16 @@ const MOST_RECORDS: u64 = 100000;
 pub(crate) enum Kind {
     Levels,
     Strength,
+    Line,
 }
 
 // A record stands at the start: with one length for all kinds, one loop reads them all.
 pub(crate) type Record = [u8; 4096];
+
+// A record's number of two bytes.
+pub(crate) fn unsigned16(low: u8, high: u8) -> u16 {
+    high as u16 * 256 + low as u16
+}
 
 enum Outcome {
     Equal,
@@ -35,6 +42,7 @@ fn record_length(kind: Kind) -> usize
     match kind {
         Kind::Levels => levels_record::LENGTH,
         Kind::Strength => strength_record::LENGTH,
+        Kind::Line => line_record::LENGTH,
     }
 }
 
@@ -42,6 +50,7 @@ fn is_equal(kind: Kind, record: &Record) -> bool {
     match kind {
         Kind::Levels => levels_record::is_equal(record),
         Kind::Strength => strength_record::is_equal(record),
+        Kind::Line => line_record::is_equal(record),
     }
 }
 
