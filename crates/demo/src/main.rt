@@ -1,10 +1,15 @@
-// Prints the level table of a built-in frame header, and the strengths of some of its levels.
+// Prints the level table of a built-in frame header, the strengths of some of its levels, and a line
+// before and after the filter.
 ghost use Prim.Native.Nat.{_<_};
+
+mod step;
+
 use levels::header::Delta;
 use levels::header::LoopFilterParams;
 use levels::header::SegmentationParams;
 use levels::loop_filter::level_table;
 use libc::STDOUT_FILENO;
+use step::print_line;
 use strength::StrengthAnswer;
 use strength::strength_for_level;
 
@@ -38,7 +43,7 @@ fn segments() -> SegmentationParams {
     }
 }
 
-fn print_number(name: &[u8], number: u8) {
+pub(crate) fn print_number(name: &[u8], number: u8) {
     io::write_all(STDOUT_FILENO, name);
     io::print_decimal(STDOUT_FILENO, number as u64);
 }
@@ -88,4 +93,5 @@ fn main() {
     print_strength(levels[0], 0);
     print_strength(levels[0], 5);
     print_strength(levels[8], 0);
+    print_line();
 }
