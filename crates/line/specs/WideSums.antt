@@ -8,43 +8,43 @@ use native.Mathlib.Omega.{arith}
 use lib.IntN.{pos, negsuc}
 use lib.ListN.{set}
 use Rattle.base.specs.Filled.{filled}
-use Rattle.base.specs.Notation.{Clip3, Round2}
+use Rattle.base.specs.Notation.{Clip3}
 use Rattle.line.specs.Taps.{p, q}
 use Rattle.line.specs.WideFilter.{sumTo, smoothed, wideFilter}
 
 -- x0, x1 and x2 of six samples
 abbrev pub six0 : ℕ → ℕ → ℕ → ℕ → ℕ → ℕ → ℕ → ℕ
-six0 x3 x2 x1 x0 y0 y1 y2 = Round2 (x3 + x2 + x1 + 2 * x0 + y0 + y1 + y2) 3
+six0 x3 x2 x1 x0 y0 y1 y2 = (x3 + (x0 + x1 + x2 + 4) + x0 + (y0 + y1 + y2)) / 8
 
 abbrev pub six1 : ℕ → ℕ → ℕ → ℕ → ℕ → ℕ → ℕ
-six1 x3 x2 x1 x0 y0 y1 = Round2 (2 * x3 + x2 + 2 * x1 + x0 + y0 + y1) 3
+six1 x3 x2 x1 x0 y0 y1 = (x3 * 2 + (x0 + x1 + x2 + 4) + x1 + (y0 + y1)) / 8
 
 abbrev pub six2 : ℕ → ℕ → ℕ → ℕ → ℕ → ℕ
-six2 x3 x2 x1 x0 y0 = Round2 (3 * x3 + 2 * x2 + x1 + x0 + y0) 3
+six2 x3 x2 x1 x0 y0 = (x3 * 3 + (x0 + x1 + x2 + 4) + x2 + y0) / 8
 
 -- x0 to x6 of fourteen
 abbrev pub fourteen0 : ℕ → ℕ → ℕ → ℕ → ℕ → ℕ → ℕ → ℕ → ℕ → ℕ → ℕ → ℕ → ℕ → ℕ → ℕ → ℕ
-fourteen0 x7 x6 x5 x4 x3 x2 x1 x0 y0 y1 y2 y3 y4 y5 y6 = Round2 (x7 + x6 + x5 + x4 + x3 + x2 + x1 + 2 * x0 + y0 + y1 + y2 + y3 + y4 + y5 + y6) 4
+fourteen0 x7 x6 x5 x4 x3 x2 x1 x0 y0 y1 y2 y3 y4 y5 y6 = (x7 + (x0 + x1 + x2 + x3 + x4 + x5 + x6 + 8) + x0 + (y0 + y1 + y2 + y3 + y4 + y5 + y6)) / 16
 
 abbrev pub fourteen1 : ℕ → ℕ → ℕ → ℕ → ℕ → ℕ → ℕ → ℕ → ℕ → ℕ → ℕ → ℕ → ℕ → ℕ → ℕ
-fourteen1 x7 x6 x5 x4 x3 x2 x1 x0 y0 y1 y2 y3 y4 y5 = Round2 (2 * x7 + x6 + x5 + x4 + x3 + x2 + 2 * x1 + x0 + y0 + y1 + y2 + y3 + y4 + y5) 4
+fourteen1 x7 x6 x5 x4 x3 x2 x1 x0 y0 y1 y2 y3 y4 y5 = (x7 * 2 + (x0 + x1 + x2 + x3 + x4 + x5 + x6 + 8) + x1 + (y0 + y1 + y2 + y3 + y4 + y5)) / 16
 
 abbrev pub fourteen2 : ℕ → ℕ → ℕ → ℕ → ℕ → ℕ → ℕ → ℕ → ℕ → ℕ → ℕ → ℕ → ℕ → ℕ
-fourteen2 x7 x6 x5 x4 x3 x2 x1 x0 y0 y1 y2 y3 y4 = Round2 (3 * x7 + x6 + x5 + x4 + x3 + 2 * x2 + x1 + x0 + y0 + y1 + y2 + y3 + y4) 4
+fourteen2 x7 x6 x5 x4 x3 x2 x1 x0 y0 y1 y2 y3 y4 = (x7 * 3 + (x0 + x1 + x2 + x3 + x4 + x5 + x6 + 8) + x2 + (y0 + y1 + y2 + y3 + y4)) / 16
 
 abbrev pub fourteen3 : ℕ → ℕ → ℕ → ℕ → ℕ → ℕ → ℕ → ℕ → ℕ → ℕ → ℕ → ℕ → ℕ
-fourteen3 x7 x6 x5 x4 x3 x2 x1 x0 y0 y1 y2 y3 = Round2 (4 * x7 + x6 + x5 + x4 + 2 * x3 + x2 + x1 + x0 + y0 + y1 + y2 + y3) 4
+fourteen3 x7 x6 x5 x4 x3 x2 x1 x0 y0 y1 y2 y3 = (x7 * 4 + (x0 + x1 + x2 + x3 + x4 + x5 + x6 + 8) + x3 + (y0 + y1 + y2 + y3)) / 16
 
 abbrev pub fourteen4 : ℕ → ℕ → ℕ → ℕ → ℕ → ℕ → ℕ → ℕ → ℕ → ℕ → ℕ → ℕ
-fourteen4 x7 x6 x5 x4 x3 x2 x1 x0 y0 y1 y2 = Round2 (5 * x7 + x6 + x5 + 2 * x4 + x3 + x2 + x1 + x0 + y0 + y1 + y2) 4
+fourteen4 x7 x6 x5 x4 x3 x2 x1 x0 y0 y1 y2 = (x7 * 5 + (x0 + x1 + x2 + x3 + x4 + x5 + x6 + 8) + x4 + (y0 + y1 + y2)) / 16
 
 abbrev pub fourteen5 : ℕ → ℕ → ℕ → ℕ → ℕ → ℕ → ℕ → ℕ → ℕ → ℕ → ℕ
-fourteen5 x7 x6 x5 x4 x3 x2 x1 x0 y0 y1 = Round2 (6 * x7 + x6 + 2 * x5 + x4 + x3 + x2 + x1 + x0 + y0 + y1) 4
+fourteen5 x7 x6 x5 x4 x3 x2 x1 x0 y0 y1 = (x7 * 6 + (x0 + x1 + x2 + x3 + x4 + x5 + x6 + 8) + x5 + (y0 + y1)) / 16
 
 abbrev pub fourteen6 : ℕ → ℕ → ℕ → ℕ → ℕ → ℕ → ℕ → ℕ → ℕ → ℕ
-fourteen6 x7 x6 x5 x4 x3 x2 x1 x0 y0 = Round2 (7 * x7 + 2 * x6 + x5 + x4 + x3 + x2 + x1 + x0 + y0) 4
+fourteen6 x7 x6 x5 x4 x3 x2 x1 x0 y0 = (x7 * 7 + (x0 + x1 + x2 + x3 + x4 + x5 + x6 + 8) + x6 + y0) / 16
 
-pub over : (d : ℕ) {a b : ℕ} → a ≡ b → a / d ≡ b / d
+over : (d : ℕ) {a b : ℕ} → a ≡ b → a / d ≡ b / d
 over d e = rw e
 
 six-sums : (t : List ℕ) → (smoothed 3 t (negsuc 2) ≡ six2 (p t 3) (p t 2) (p t 1) (p t 0) (q t 0)) × (smoothed 3 t (negsuc 1) ≡ six1 (p t 3) (p t 2) (p t 1) (p t 0) (q t 0) (q t 1)) × (smoothed 3 t (negsuc 0) ≡ six0 (p t 3) (p t 2) (p t 1) (p t 0) (q t 0) (q t 1) (q t 2)) × (smoothed 3 t (pos 0) ≡ six0 (q t 3) (q t 2) (q t 1) (q t 0) (p t 0) (p t 1) (p t 2)) × (smoothed 3 t (pos 1) ≡ six1 (q t 3) (q t 2) (q t 1) (q t 0) (p t 0) (p t 1)) × (smoothed 3 t (pos 2) ≡ six2 (q t 3) (q t 2) (q t 1) (q t 0) (p t 0))
