@@ -1,7 +1,6 @@
 use borrow.Author.Needs.{needs}
 use mathlib.Core.Path.{_≡_, refl, sym, _∙_}
 use mathlib.Core.Bool.{Bool, true, false, not}
-use mathlib.Core.List.{List}
 use Prim.Native.Nat.{ℕ, _*_, _^_}
 use native.Mathlib.Omega.{arith}
 use denote.Ref.{now}
@@ -13,63 +12,51 @@ use Rattle.line.specs.LineLaws.{line-depth, line-sample, line-size, line
 use Rattle.line.proofs.sample_filtering.Statement.{statement}
 use Rattle.line.proofs.sample_filtering.Tie as tie
 
+-- past the first test the depth is supported
+known : (c : tie.Else1) → supported (c .before .before .args .depth) ≡ true
+known c = sym (c .before .is-supported .ensures) ∙ not-false (c .before .is-supported .result) (c .if1 .left)
+
 -- the bound that the code forms
 bound-is : (B s : ℕ) → supported B ≡ true → s ≡ scaled B 128 → 2 * s ≡ 2 ^ B
 bound-is B s d e = let f = depth-scaled B d in omega arith
 
-known : (B : ℕ) (r : Bool) → r ≡ supported B → not r ≡ false → supported B ≡ true
-known B r e f = sym e ∙ not-false r f
+bound : (c : tie.After-scaled) → 2 * c .scaled .result ≡ 2 ^ (c .before .before .before .args .depth)
+bound c = bound-is (c .before .before .before .args .depth) (c .scaled .result) (known (c .before)) (c .scaled .ensures .0)
+
+-- past the second no sample is too large
+in-range : (c : tie.Else2) → let a = c .before .before .before .before .before .before .args in found (reaches (2 ^ a .depth) (now (a .t))) 16 ≡ false
+in-range c = rw (c .before .any-reaches .ensures, bound (c .before .before .before)) at (c .if2 .left)
 
 returns : tie.Need-returns
 returns c =
     let a = c .before .before .args in
-    let d : supported (a .depth) ≡ false = rw (c .before .is-supported .ensures) at (not-true (c .before .is-supported .result) (c .if1 .taken)) in
+    let d : supported (a .depth) ≡ false = sym (c .before .is-supported .ensures) ∙ not-true (c .before .is-supported .result) (c .if1 .taken) in
     rw (line-depth (a .depth) (a .size) (a .limit) (a .blimit) (a .thresh) (now (a .t)) d) (refl, refl)
-
-scaled-requires : tie.Need-scaled-requires
-scaled-requires c κs =
-    known (c .before .before .args .depth) (c .before .is-supported .result) (c .before .is-supported .ensures) (c .if1 .left)
 
 returns-2 : tie.Need-returns-2
 returns-2 c =
-    let at-any = c .before .before .before in
-    let at-scaled = at-any .before .before in
-    let at-supported = at-scaled .before .before in
-    let a = at-supported .before .args in
-    let t = now (a .t) in
-    let d = known (a .depth) (at-supported .is-supported .result) (at-supported .is-supported .ensures) (at-scaled .before .if1 .left) in
-    let e = bound-is (a .depth) (at-scaled .scaled .result) d (at-scaled .scaled .ensures .0) in
-    let s : found (reaches (2 ^ a .depth) t) 16 ≡ true = rw (at-any .any-reaches .ensures, e) at (c .before .before .if2 .taken) in
-    rw (line-sample (a .depth) (a .size) (a .limit) (a .blimit) (a .thresh) t d s, c .first-reaching .ensures, e) (refl, refl)
+    let any = c .before .before .before in
+    let at-scaled = any .before .before in
+    let a = at-scaled .before .before .before .args in
+    let e = bound at-scaled in
+    let s : found (reaches (2 ^ a .depth) (now (a .t))) 16 ≡ true = rw (any .any-reaches .ensures, e) at (c .before .before .if2 .taken) in
+    rw (line-sample (a .depth) (a .size) (a .limit) (a .blimit) (a .thresh) (now (a .t)) (known (at-scaled .before)) s, c .first-reaching .ensures, e)
+    (refl, refl)
 
 returns-3 : tie.Need-returns-3
 returns-3 c =
-    let at-any = c .before .before in
-    let at-scaled = at-any .before .before in
-    let at-supported = at-scaled .before .before in
-    let a = at-supported .before .args in
-    let t = now (a .t) in
-    let d = known (a .depth) (at-supported .is-supported .result) (at-supported .is-supported .ensures) (at-scaled .before .if1 .left) in
-    let e = bound-is (a .depth) (at-scaled .scaled .result) d (at-scaled .scaled .ensures .0) in
-    let s : found (reaches (2 ^ a .depth) t) 16 ≡ false = rw (at-any .any-reaches .ensures, e) at (c .before .if2 .left) in
-    rw (line-size (a .depth) (a .size) (a .limit) (a .blimit) (a .thresh) t d s (c .if3 .taken)) (refl, refl)
-
-unchecked-requires : tie.Need-sample-filtering-unchecked-requires
-unchecked-requires c κs =
-    let at-if1 = c .before .before .before .before .before .before in
-    known (at-if1 .before .before .args .depth) (at-if1 .before .is-supported .result) (at-if1 .before .is-supported .ensures) (at-if1 .if1 .left)
+    let at-if1 = c .before .before .before .before .before in
+    let a = at-if1 .before .before .args in
+    rw (line-size (a .depth) (a .size) (a .limit) (a .blimit) (a .thresh) (now (a .t)) (known at-if1) (in-range (c .before)) (c .if3 .taken))
+    (refl, refl)
 
 returns-4 : tie.Need-returns-4
 returns-4 c =
-    let at-any = c .before .before .before .before in
-    let at-scaled = at-any .before .before in
-    let at-supported = at-scaled .before .before in
-    let a = at-supported .before .args in
-    let t = now (a .t) in
-    let d = known (a .depth) (at-supported .is-supported .result) (at-supported .is-supported .ensures) (at-scaled .before .if1 .left) in
-    let e = bound-is (a .depth) (at-scaled .scaled .result) d (at-scaled .scaled .ensures .0) in
-    let s : found (reaches (2 ^ a .depth) t) 16 ≡ false = rw (at-any .any-reaches .ensures, e) at (c .before .before .before .if2 .left) in
-    rw (line-filtered (a .depth) (a .size) (a .limit) (a .blimit) (a .thresh) t d s (c .before .before .if3 .left)) (refl, c .sample-filtering-unchecked .ensures)
+    let at-if2 = c .before .before .before in
+    let at-if1 = at-if2 .before .before .before .before in
+    let a = at-if1 .before .before .args in
+    rw (line-filtered (a .depth) (a .size) (a .limit) (a .blimit) (a .thresh) (now (a .t)) (known at-if1) (in-range at-if2) (c .before .before .if3 .left))
+    (refl, c .sample-filtering-unchecked .ensures)
 
 pub sample-filtering-spec : {M : Type 1} → statement M
 sample-filtering-spec =
@@ -77,12 +64,12 @@ sample-filtering-spec =
     (tie.spec
     (search needs)
     returns
-    scaled-requires
+    (λ c κs. known c)
     (search needs)
     (search needs)
     (search needs)
     (search needs)
     returns-2
     returns-3
-    unchecked-requires
+    (λ c κs. known (c .before .before .before .before .before .before))
     returns-4)

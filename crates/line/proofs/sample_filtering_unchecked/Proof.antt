@@ -10,70 +10,59 @@ use Rattle.line.specs.SampleFilteringLaws.{filters-none, filters-narrow,
 use Rattle.line.proofs.sample_filtering_unchecked.Statement.{statement}
 use Rattle.line.proofs.sample_filtering_unchecked.Tie as tie
 
+-- past the first test the mask is on, and past the second the line is flat
+mask-on : (c : tie.Else1) → let a = c .before .before .before .before .before .args in filterMask (scaled (a .depth) (a .limit)) (scaled (a .depth) (a .blimit)) (now (a .t)) ≡ true
+mask-on c =
+    let m = c .before in
+    rw (m .filter-mask .ensures, m .before .scaled2 .ensures .0, m .before .before .scaled .ensures .0)
+    at (not-false (m .filter-mask .result) (c .if1 .left))
+
+flat-on : (c : tie.Else2) → let a = c .before .before .before .before .before .before .before .before .before .args in eqb (a .size) 0 || not (flatMask (scaled (a .depth) 1) (now (a .t))) ≡ false
+flat-on c = rw (c .before .flat-mask .ensures, c .before .before .scaled3 .ensures .0) at (c .if2 .left)
+
 returns : tie.Need-returns
 returns c =
-    let at-mask = c .before in
-    let at-args = at-mask .before .before .before .before in
-    let a = at-args .args in
-    let t = now (a .t) in
-    let m : filterMask (scaled (a .depth) (a .limit)) (scaled (a .depth) (a .blimit)) t ≡ false =
-    rw (at-mask .filter-mask .ensures, at-mask .before .scaled2 .ensures .0, at-mask .before .before .scaled .ensures .0) at (not-true (at-mask .filter-mask .result) (c .if1 .taken)) in
-    filters-none (a .depth) (a .size) (a .limit) (a .blimit) (a .thresh) t m
+    let m = c .before in
+    let a = m .before .before .before .before .args in
+    let off : filterMask (scaled (a .depth) (a .limit)) (scaled (a .depth) (a .blimit)) (now (a .t)) ≡ false =
+    rw (m .filter-mask .ensures, m .before .scaled2 .ensures .0, m .before .before .scaled .ensures .0) at (not-true (m .filter-mask .result) (c .if1 .taken)) in
+    filters-none (a .depth) (a .size) (a .limit) (a .blimit) (a .thresh) (now (a .t)) off
 
 returns-2 : tie.Need-returns-2
 returns-2 c =
-    let at-hev = c .before .before in
-    let at-if2 = at-hev .before .before .before in
+    let hev = c .before .before in
+    let at-if2 = hev .before .before .before in
     let at-flat = at-if2 .before in
     let at-if1 = at-flat .before .before .before in
-    let at-mask = at-if1 .before in
-    let at-args = at-mask .before .before .before .before in
-    let a = at-args .args in
-    let t = now (a .t) in
-    let m : filterMask (scaled (a .depth) (a .limit)) (scaled (a .depth) (a .blimit)) t ≡ true =
-    rw (at-mask .filter-mask .ensures, at-mask .before .scaled2 .ensures .0, at-mask .before .before .scaled .ensures .0) at (not-false (at-mask .filter-mask .result) (at-if1 .if1 .left)) in
-    let f : eqb (a .size) 0 || not (flatMask (scaled (a .depth) 1) t) ≡ true =
+    let a = at-if1 .before .before .before .before .before .args in
+    let narrow : eqb (a .size) 0 || not (flatMask (scaled (a .depth) 1) (now (a .t))) ≡ true =
     rw (at-flat .flat-mask .ensures, at-flat .before .scaled3 .ensures .0) at (at-if2 .if2 .taken) in
-    (rw (at-hev .hev-mask .ensures, at-hev .before .scaled4 .ensures .0) at (c .narrow-filter .ensures))
-    ∙ filters-narrow (a .depth) (a .size) (a .limit) (a .blimit) (a .thresh) t m f
+    (rw (hev .hev-mask .ensures, hev .before .scaled4 .ensures .0) at (c .narrow-filter .ensures))
+    ∙ filters-narrow (a .depth) (a .size) (a .limit) (a .blimit) (a .thresh) (now (a .t)) (mask-on at-if1) narrow
 
 returns-3 : tie.Need-returns-3
 returns-3 c =
     let at-if3 = c .before .before in
     let at-flat2 = at-if3 .before in
     let at-if2 = at-flat2 .before .before .before in
-    let at-flat = at-if2 .before in
-    let at-if1 = at-flat .before .before .before in
-    let at-mask = at-if1 .before in
-    let at-args = at-mask .before .before .before .before in
-    let a = at-args .args in
-    let t = now (a .t) in
-    let m : filterMask (scaled (a .depth) (a .limit)) (scaled (a .depth) (a .blimit)) t ≡ true =
-    rw (at-mask .filter-mask .ensures, at-mask .before .scaled2 .ensures .0, at-mask .before .before .scaled .ensures .0) at (not-false (at-mask .filter-mask .result) (at-if1 .if1 .left)) in
-    let f : eqb (a .size) 0 || not (flatMask (scaled (a .depth) 1) t) ≡ false =
-    rw (at-flat .flat-mask .ensures, at-flat .before .scaled3 .ensures .0) at (at-if2 .if2 .left) in
-    let g : eqb (a .size) 1 || not (flatMask2 (scaled (a .depth) 1) t) ≡ true =
+    let at-if1 = at-if2 .before .before .before .before in
+    let a = at-if1 .before .before .before .before .before .args in
+    let six : eqb (a .size) 1 || not (flatMask2 (scaled (a .depth) 1) (now (a .t))) ≡ true =
     rw (at-flat2 .flat-mask2 .ensures, at-flat2 .before .scaled5 .ensures .0) at (at-if3 .if3 .taken) in
-    c .wide-filter-six .ensures ∙ filters-six (a .depth) (a .size) (a .limit) (a .blimit) (a .thresh) t m f g
+    c .wide-filter-six .ensures
+    ∙ filters-six (a .depth) (a .size) (a .limit) (a .blimit) (a .thresh) (now (a .t)) (mask-on at-if1) (flat-on at-if2) six
 
 returns-4 : tie.Need-returns-4
 returns-4 c =
     let at-if3 = c .before .before in
     let at-flat2 = at-if3 .before in
     let at-if2 = at-flat2 .before .before .before in
-    let at-flat = at-if2 .before in
-    let at-if1 = at-flat .before .before .before in
-    let at-mask = at-if1 .before in
-    let at-args = at-mask .before .before .before .before in
-    let a = at-args .args in
-    let t = now (a .t) in
-    let m : filterMask (scaled (a .depth) (a .limit)) (scaled (a .depth) (a .blimit)) t ≡ true =
-    rw (at-mask .filter-mask .ensures, at-mask .before .scaled2 .ensures .0, at-mask .before .before .scaled .ensures .0) at (not-false (at-mask .filter-mask .result) (at-if1 .if1 .left)) in
-    let f : eqb (a .size) 0 || not (flatMask (scaled (a .depth) 1) t) ≡ false =
-    rw (at-flat .flat-mask .ensures, at-flat .before .scaled3 .ensures .0) at (at-if2 .if2 .left) in
-    let g : eqb (a .size) 1 || not (flatMask2 (scaled (a .depth) 1) t) ≡ false =
+    let at-if1 = at-if2 .before .before .before .before in
+    let a = at-if1 .before .before .before .before .before .args in
+    let fourteen : eqb (a .size) 1 || not (flatMask2 (scaled (a .depth) 1) (now (a .t))) ≡ false =
     rw (at-flat2 .flat-mask2 .ensures, at-flat2 .before .scaled5 .ensures .0) at (at-if3 .if3 .left) in
-    c .wide-filter-fourteen .ensures ∙ filters-fourteen (a .depth) (a .size) (a .limit) (a .blimit) (a .thresh) t m f g
+    c .wide-filter-fourteen .ensures
+    ∙ filters-fourteen (a .depth) (a .size) (a .limit) (a .blimit) (a .thresh) (now (a .t)) (mask-on at-if1) (flat-on at-if2) fourteen
 
 pub sample-filtering-unchecked-spec : {M : Type 1} → statement M
 sample-filtering-unchecked-spec =

@@ -70,10 +70,10 @@ add-sample x =
     let at-signed2 = x .before .before .before .before .before .before .before .before in
     plus-fits (at-signed2 .signed2 .result) (x .before .eighth2 .result) (far (at-signed2 .signed2 .ensures .1)) (far (omega arith))
 
-returns : tie.Need-returns
-returns x =
-    let at-sample2 = x .before in
-    let at-sample = at-sample2 .before in
+-- the filter after p0 and q0 are stored
+filtered : (x : tie.After-sample2) → let signed4 = x .before .before .before .before .before in let signed = signed4 .before .before .before .before .before .before in let a = signed .before .before .args in let t = set (set (now (a .t)) 8 (x .before .sample .result)) 7 (x .sample2 .result) in let f1 = x .before .before .before .eighth .result in cond (a .hev) t (set (set t 9 (sample (a .depth) (signed4 .signed4 .result -ℤ Round2Z f1 1))) 6 (sample (a .depth) (signed .signed .result +ℤ Round2Z f1 1))) ≡ narrowFilter (a .depth) (a .hev) (now (a .t))
+filtered x =
+    let at-sample = x .before in
     let at-eighth2 = at-sample .before in
     let at-eighth = at-eighth2 .before in
     let at-filter = at-eighth .before in
@@ -82,8 +82,10 @@ returns x =
     let at-signed2 = at-signed3 .before .before in
     let at-signed = at-signed2 .before .before in
     let a = at-signed .before .before .args in
-    let filtered = narrow-is (a .depth) (a .hev) (now (a .t)) (at-signed .signed .result) (at-signed2 .signed2 .result) (at-signed3 .signed3 .result) (at-signed4 .signed4 .result) (at-filter .filter-value .result) (at-eighth .eighth .result) (at-eighth2 .eighth2 .result) (at-sample .sample .result) (at-sample2 .sample2 .result) (at-signed .signed .ensures) (at-signed2 .signed2 .ensures) (at-signed3 .signed3 .ensures) (at-signed4 .signed4 .ensures) (at-filter .filter-value .ensures) (at-eighth .eighth .ensures) (at-eighth2 .eighth2 .ensures) (at-sample .sample .ensures) (at-sample2 .sample2 .ensures) in
-    rw (← filtered, x .if1 .taken)
+    narrow-is (a .depth) (a .hev) (now (a .t)) (at-signed .signed .result) (at-signed2 .signed2 .result) (at-signed3 .signed3 .result) (at-signed4 .signed4 .result) (at-filter .filter-value .result) (at-eighth .eighth .result) (at-eighth2 .eighth2 .result) (at-sample .sample .result) (x .sample2 .result) (at-signed .signed .ensures) (at-signed2 .signed2 .ensures) (at-signed3 .signed3 .ensures) (at-signed4 .signed4 .ensures) (at-filter .filter-value .ensures) (at-eighth .eighth .ensures) (at-eighth2 .eighth2 .ensures) (at-sample .sample .ensures) (x .sample2 .ensures)
+
+returns : tie.Need-returns
+returns x = rw (← filtered (x .before), x .if1 .taken)
 
 rounded-half-requires : tie.Need-rounded-half-requires
 rounded-half-requires x κs =
@@ -104,20 +106,13 @@ returns-2 : tie.Need-returns-2
 returns-2 x =
     let at-rounded = x .before .before in
     let at-sample2 = at-rounded .before .before in
-    let at-sample = at-sample2 .before in
-    let at-eighth2 = at-sample .before in
-    let at-eighth = at-eighth2 .before in
-    let at-filter = at-eighth .before in
-    let at-signed4 = at-filter .before in
-    let at-signed3 = at-signed4 .before .before in
-    let at-signed2 = at-signed3 .before .before in
-    let at-signed = at-signed2 .before .before in
-    let a = at-signed .before .before .args in
-    let filtered = narrow-is (a .depth) (a .hev) (now (a .t)) (at-signed .signed .result) (at-signed2 .signed2 .result) (at-signed3 .signed3 .result) (at-signed4 .signed4 .result) (at-filter .filter-value .result) (at-eighth .eighth .result) (at-eighth2 .eighth2 .result) (at-sample .sample .result) (at-sample2 .sample2 .result) (at-signed .signed .ensures) (at-signed2 .signed2 .ensures) (at-signed3 .signed3 .ensures) (at-signed4 .signed4 .ensures) (at-filter .filter-value .ensures) (at-eighth .eighth .ensures) (at-eighth2 .eighth2 .ensures) (at-sample .sample .ensures) (at-sample2 .sample2 .ensures) in
+    let at-eighth = at-sample2 .before .before .before in
+    let at-signed4 = at-eighth .before .before in
+    let at-signed = at-signed4 .before .before .before .before .before .before in
     let rounded = at-rounded .rounded-half .result in
     let small : Far rounded = far (omega arith) in
     rw (
-      ← filtered,
+      ← filtered at-sample2,
       at-rounded .before .if1 .left,
       x .sample4 .ensures,
       x .before .sample3 .ensures,
