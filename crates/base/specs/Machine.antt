@@ -3,12 +3,12 @@
 use mathlib.Core.Path.{_≡_}
 use Prim.Native.Nat.{ℕ, _^_, _<_}
 use native.Mathlib.Omega.{arith}
-use lib.IntN.{ℤ, pos, _+ℤ_, _-ℤ_, _*ℤ_}
+use lib.IntN.{ℤ, _+ℤ_, _-ℤ_}
 use lib.Signed.{mag, shrZ, mag-shr}
 use mir.Facts.{toZ-ofZ}
 use mir.Syntax.{Width, w32}
 use mir.Val.{SFits, hbits, toZ, ofZ}
-use Rattle.base.specs.NotationLaws.{mag-add, mag-minus, mag-triple}
+use Rattle.base.specs.NotationLaws.{mag-add, mag-minus}
 
 pub back : (w : Width) {z : ℤ} → mag z < 2 ^ hbits w → toZ w (ofZ w z) ≡ z
 back w h = toZ-ofZ (record { sfits = h })
@@ -35,12 +35,6 @@ minus-fits a b f g = rw (far-read f, far-read g) (record { sfits = omega (arith,
 
 pub minus-read : (a b : ℤ) → Far a → Far b → read (read a -ℤ read b) ≡ a -ℤ b
 minus-read a b f g = rw (far-read f, far-read g) (back w32 (omega (arith, mag-minus a b (f .far) (g .far))))
-
-pub triple-fits : (a : ℤ) → Far a → SFits w32 (pos 3 *ℤ read a)
-triple-fits a f = rw (far-read f) (record { sfits = omega (arith, mag-triple a (f .far)) })
-
-pub triple-read : (a : ℤ) → Far a → read (pos 3 *ℤ read a) ≡ pos 3 *ℤ a
-triple-read a f = rw (far-read f) (back w32 (omega (arith, mag-triple a (f .far))))
 
 pub shr-read : (a : ℤ) (m : ℕ) → Far a → read (shrZ (read a) m) ≡ shrZ a m
 shr-read a m f = rw (far-read f) (back w32 (omega (arith, mag-shr a m)))

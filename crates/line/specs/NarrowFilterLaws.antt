@@ -4,7 +4,7 @@ use mathlib.Core.Path.{_≡_, _∙_}
 use mathlib.Core.List.{List}
 use mathlib.Core.Logic.{_⊎_, ⊎-elim}
 use mathlib.Core.Bool.{Bool, true, false, cond}
-use Prim.Native.Nat.{ℕ, zero, suc, _+_, _-_, _*_, _^_, _≤_, _<_}
+use Prim.Native.Nat.{ℕ, suc, _+_, _-_, _*_, _^_, _≤_, _<_}
 use native.Mathlib.Omega.{arith}
 use lib.Dec.{T}
 use lib.IntN.{ℤ, pos, negsuc, negℤ, natAbs, _+ℤ_, _-ℤ_, +ℤ-idl}
@@ -12,7 +12,7 @@ use lib.ListN.{length, set, length-set}
 use lib.Seq.{getD-set-other}
 use lib.Signed.{mag, nonNeg}
 use borrow.Author.Tests.{le-ltb}
-use Rattle.base.specs.Depth.{supported, Scaled, depth-scaled}
+use Rattle.base.specs.Depth.{supported, depth-scaled}
 use Rattle.base.specs.Filled.{set-below, set-agree}
 use Rattle.base.specs.Notation.{Clip3}
 use Rattle.base.specs.NotationLaws.{mag-clip}

@@ -1,6 +1,6 @@
 -- The sample filtering process: 8.8.5. Which filter a line gets.
 -- Assumes nothing.
-use mathlib.Core.Bool.{Bool, cond, not, _||_}
+use mathlib.Core.Bool.{cond, not, _||_}
 use mathlib.Core.List.{List}
 use Prim.Native.Nat.{ℕ}
 use lib.Dec.{eqb}

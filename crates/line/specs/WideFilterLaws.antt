@@ -1,18 +1,18 @@
 -- Laws of the wide filter: how many samples it leaves, in which range, which it keeps, and which it reads.
 -- Assumes nothing.
-use mathlib.Core.Path.{_≡_, refl, ap}
+use mathlib.Core.Path.{_≡_, refl}
 use mathlib.Core.Bool.{Bool, true, false, cond}
 use mathlib.Core.List.{List}
 use mathlib.Core.Logic.{_⊎_, inl, inr, ⊎-elim}
 use Prim.Native.Nat.{ℕ, zero, suc, _+_, _-_, _*_, _≤_, _<_}
 use native.Mathlib.Nat.{mul-suc}
 use native.Mathlib.Omega.{arith}
-use lib.Dec.{eqb, ltb}
+use lib.Dec.{eqb}
 use lib.IntN.{ℤ, pos, negsuc, _+ℤ_, _-ℤ_}
 use lib.ListN.{length}
 use lib.Signed.{mag}
-use borrow.Author.Tests.{lt-ltb, le-ltb, eq-eqb, ne-eqb}
-use Rattle.base.specs.Filled.{filled, length-filled, filled-other, filled-below, filled-agree}
+use borrow.Author.Tests.{eq-eqb, ne-eqb}
+use Rattle.base.specs.Filled.{length-filled, filled-other, filled-below, filled-agree}
 use Rattle.base.specs.Notation.{Clip3}
 use Rattle.base.specs.NotationLaws.{split, mag-clip}
 use Rattle.line.specs.Taps.{tap, F, Within, Agree, agree-less}

@@ -1,7 +1,7 @@
 -- The sums of the wide filter written out, as the code forms them: x is the side of the sample that changes and y the
 -- other side, each counted from the edge.
 -- Assumes nothing.
-use mathlib.Core.Path.{_≡_, refl}
+use mathlib.Core.Path.{_≡_}
 use mathlib.Core.List.{List}
 use Prim.Native.Nat.{ℕ, _+_, _*_, _/_}
 use native.Mathlib.Omega.{arith}

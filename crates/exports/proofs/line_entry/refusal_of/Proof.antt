@@ -2,7 +2,6 @@ use borrow.Author.Needs.{needs}
 use mathlib.Core.Path.{_≡_, sym, ap}
 use Prim.Native.Nat.{_≤_}
 use native.Mathlib.Omega.{arith}
-use Rattle.base.specs.Outcome.{Returned}
 use Rattle.line.specs.Line.{returnedOf}
 use Rattle.line.specs.declared.LineAnswer.{LineAnswer}
 use Rattle.exports.proofs.line_entry.refusal_of.Statement.{statement}

@@ -1,10 +1,7 @@
 use borrow.Author.Needs.{needs}
 use mathlib.Core.Path.{_≡_, refl, _∙_}
-use mathlib.Core.Bool.{true}
-use Prim.Native.Nat.{_<_}
 use native.Mathlib.Omega.{arith}
-use lib.IntN.{ℤ, pos, _-ℤ_}
-use lib.Signed.{mag}
+use lib.IntN.{pos, _-ℤ_}
 use mir.Syntax.{w32}
 use mir.Facts.{toZ-ofZ}
 use Rattle.base.specs.Depth.{depth-scaled}

@@ -1,12 +1,8 @@
-use borrow.Author.Needs.{needs}
-use mathlib.Core.Path.{_≡_, refl}
-use Prim.Native.Nat.{_-_, _*_, _^_, _<_}
+use Prim.Native.Nat.{_-_, _*_, _^_}
 use native.Mathlib.Omega.{arith}
-use lib.IntN.{ℤ, pos, natAbs, _+ℤ_}
-use lib.Signed.{mag}
 use mir.Facts.{toZ-ofZ}
 use Rattle.base.specs.Depth.{depth-scaled}
-use Rattle.base.specs.Machine.{Far, read, plus-fits, plus-read}
+use Rattle.base.specs.Machine.{plus-fits, plus-read}
 use Rattle.line.specs.NarrowFilter.{c, offset, sample}
 use Rattle.line.specs.NarrowFilterLaws.{c-small, raised-sign, raised-small}
 use Rattle.line.proofs.narrow.sample.Statement.{statement}

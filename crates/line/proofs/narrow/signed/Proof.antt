@@ -1,8 +1,8 @@
 use borrow.Author.Needs.{needs}
-use mathlib.Core.Path.{_≡_, refl}
+use mathlib.Core.Path.{refl}
 use native.Mathlib.Omega.{arith}
-use lib.IntN.{ℤ, pos, _-ℤ_}
-use Rattle.base.specs.Machine.{Far, minus-fits, minus-read}
+use lib.IntN.{pos}
+use Rattle.base.specs.Machine.{minus-fits, minus-read}
 use Rattle.base.specs.NotationLaws.{mag-minus}
 use Rattle.line.proofs.narrow.signed.Statement.{statement}
 use Rattle.line.proofs.narrow.signed.Tie as tie
