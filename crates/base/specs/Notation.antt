@@ -13,9 +13,9 @@ Clip3 lo hi v = cond (ltZ v lo) lo (cond (ltZ hi v) hi v)
 abbrev pub shlZ : ℤ → ℕ → ℤ
 shlZ v n = v *ℤ pos (2 ^ n)
 
--- v >> n, rounded down
-abbrev pub shrℤ : ℤ → ℕ → ℤ
-shrℤ v n = shrZ v (2 ^ n)
+-- v >> n: a negative number is rounded down too
+abbrev pub asrZ : ℤ → ℕ → ℤ
+asrZ v n = shrZ v (2 ^ n)
 
 -- Abs( a - b ) for two samples
 abbrev pub absDiff : ℕ → ℕ → ℕ

@@ -5,7 +5,7 @@ ghost use Prim.Native.Nat.{_<_};
 ghost use lib.IntN.{pos, _+ℤ_, _-ℤ_, _*ℤ_};
 ghost use lib.Signed.{mag};
 ghost use Rattle.base.specs.Depth.{supported};
-ghost use Rattle.base.specs.Notation.{Clip3, shrℤ, Round2Z};
+ghost use Rattle.base.specs.Notation.{Clip3, asrZ, Round2Z};
 ghost use Rattle.line.specs.NarrowFilter.{c, offset, signed, sample, narrowFilter};
 use crate::depth::scaled;
 use crate::taps::*;
@@ -73,7 +73,7 @@ fn filter_value(ps1: i32, ps0: i32, qs0: i32, qs1: i32, hev: bool, depth: u8) ->
 // c( v ) >> 3.
 fn eighth(v: i32, depth: u8) -> i32
     requires { ⌜ supported depth ≡ true ⌝ }
-    ensures { λ r. ⌜ (r ≡ shrℤ (c depth v) 3) × (mag r < 2048) ⌝ }
+    ensures { λ r. ⌜ (r ≡ asrZ (c depth v) 3) × (mag r < 2048) ⌝ }
 {
     clip(v, depth) >> 3
 }

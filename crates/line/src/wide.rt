@@ -1,7 +1,7 @@
 // The wide filter (8.8.5.3). Sums grow from the edge outwards, so that nothing is subtracted.
 ghost use mathlib.Core.Path.{_≡_};
 ghost use Rattle.line.specs.WideFilter.{wideFilter};
-ghost use Rattle.line.specs.WideSums.{six0, six1, six2, fourteen0, fourteen1, fourteen2, fourteen3, fourteen4, fourteen5, fourteen6};
+ghost use Rattle.line.specs.WideSums.{six, fourteen};
 use crate::taps::*;
 
 // The samples of one side that change, counted from the edge.
@@ -23,7 +23,7 @@ struct Seven {
 
 // One side: x is that side and y the other.
 fn side3(x3: u16, x2: u16, x1: u16, x0: u16, y0: u16, y1: u16, y2: u16) -> Three
-    ensures { λ r. ⌜ (r .x2 ≡ six2 x3 x2 x1 x0 y0) × (r .x1 ≡ six1 x3 x2 x1 x0 y0 y1) × (r .x0 ≡ six0 x3 x2 x1 x0 y0 y1 y2) ⌝ }
+    ensures { λ r. ⌜ (r .x2 ≡ six x3 x2 x1 x0 y0 y1 y2 2) × (r .x1 ≡ six x3 x2 x1 x0 y0 y1 y2 1) × (r .x0 ≡ six x3 x2 x1 x0 y0 y1 y2 0) ⌝ }
 {
     let near = x0 as u32 + x1 as u32 + x2 as u32 + 4;
     let y0 = y0 as u32;
@@ -33,7 +33,7 @@ fn side3(x3: u16, x2: u16, x1: u16, x0: u16, y0: u16, y1: u16, y2: u16) -> Three
     Three {
         x2: ((x3 * 3 + near + x2 as u32 + y0) / 8) as u16,
         x1: ((x3 * 2 + near + x1 as u32 + y1) / 8) as u16,
-        x0: ((x3 + near + x0 as u32 + y2) / 8) as u16,
+        x0: ((x3 * 1 + near + x0 as u32 + y2) / 8) as u16,
     }
 }
 
@@ -54,16 +54,10 @@ fn side7(
     y5: u16,
     y6: u16,
 ) -> Seven
-    ensures { λ r. ⌜ (r .x6 ≡ fourteen6 x7 x6 x5 x4 x3 x2 x1 x0 y0) × (r .x5 ≡ fourteen5 x7 x6 x5 x4 x3 x2 x1 x0 y0 y1) × (r .x4 ≡ fourteen4 x7 x6 x5 x4 x3 x2 x1 x0 y0 y1 y2) × (r .x3 ≡ fourteen3 x7 x6 x5 x4 x3 x2 x1 x0 y0 y1 y2 y3) × (r .x2 ≡ fourteen2 x7 x6 x5 x4 x3 x2 x1 x0 y0 y1 y2 y3 y4) × (r .x1 ≡ fourteen1 x7 x6 x5 x4 x3 x2 x1 x0 y0 y1 y2 y3 y4 y5) × (r .x0 ≡ fourteen0 x7 x6 x5 x4 x3 x2 x1 x0 y0 y1 y2 y3 y4 y5 y6) ⌝ }
+    ensures { λ r. ⌜ (r .x6 ≡ fourteen x7 x6 x5 x4 x3 x2 x1 x0 y0 y1 y2 y3 y4 y5 y6 6) × (r .x5 ≡ fourteen x7 x6 x5 x4 x3 x2 x1 x0 y0 y1 y2 y3 y4 y5 y6 5) × (r .x4 ≡ fourteen x7 x6 x5 x4 x3 x2 x1 x0 y0 y1 y2 y3 y4 y5 y6 4) × (r .x3 ≡ fourteen x7 x6 x5 x4 x3 x2 x1 x0 y0 y1 y2 y3 y4 y5 y6 3) × (r .x2 ≡ fourteen x7 x6 x5 x4 x3 x2 x1 x0 y0 y1 y2 y3 y4 y5 y6 2) × (r .x1 ≡ fourteen x7 x6 x5 x4 x3 x2 x1 x0 y0 y1 y2 y3 y4 y5 y6 1) × (r .x0 ≡ fourteen x7 x6 x5 x4 x3 x2 x1 x0 y0 y1 y2 y3 y4 y5 y6 0) ⌝ }
 {
-    let near = x0 as u32
-        + x1 as u32
-        + x2 as u32
-        + x3 as u32
-        + x4 as u32
-        + x5 as u32
-        + x6 as u32
-        + 8;
+    let inner = x0 as u32 + x1 as u32 + x2 as u32 + x3 as u32;
+    let near = inner + x4 as u32 + x5 as u32 + x6 as u32 + 8;
     let y0 = y0 as u32;
     let y1 = y0 + y1 as u32;
     let y2 = y1 + y2 as u32;
@@ -79,7 +73,7 @@ fn side7(
         x3: ((x7 * 4 + near + x3 as u32 + y3) / 16) as u16,
         x2: ((x7 * 3 + near + x2 as u32 + y4) / 16) as u16,
         x1: ((x7 * 2 + near + x1 as u32 + y5) / 16) as u16,
-        x0: ((x7 + near + x0 as u32 + y6) / 16) as u16,
+        x0: ((x7 * 1 + near + x0 as u32 + y6) / 16) as u16,
     }
 }
 

@@ -9,7 +9,7 @@ use lib.ListN.{set}
 use lib.Signed.{mag}
 use denote.Ref.{now}
 use Rattle.base.specs.Machine.{read, Far, far-read, plus-fits, plus-read, minus-fits, minus-read}
-use Rattle.base.specs.Notation.{shrℤ, Round2Z}
+use Rattle.base.specs.Notation.{asrZ, Round2Z}
 use Rattle.line.specs.NarrowFilter.{c, signed, sample, narrowFilter}
 use Rattle.line.specs.Taps.{p, q}
 use Rattle.line.proofs.narrow.narrow_filter.Statement.{statement}
@@ -19,7 +19,7 @@ far : {z : ℤ} → mag z < 131072 → Far z
 far h = record { far = omega arith }
 
 -- the filter from the steps' own promises, which speak of the numbers that the bits read
-narrow-is : (B : ℕ) (hev : Bool) (t : List ℕ) (ps1 ps0 qs0 qs1 f f1 f2 : ℤ) (q0 p0 : ℕ) → (ps1 ≡ signed B (p t 1)) × (mag ps1 < 131072) → (ps0 ≡ signed B (p t 0)) × (mag ps0 < 131072) → (qs0 ≡ signed B (q t 0)) × (mag qs0 < 131072) → (qs1 ≡ signed B (q t 1)) × (mag qs1 < 131072) → (f ≡ c B (cond hev (c B (read ps1 -ℤ read qs1)) (pos 0) +ℤ pos 3 *ℤ (read qs0 -ℤ read ps0))) × (mag f < 2048) → (f1 ≡ shrℤ (c B (read (read f +ℤ pos 4))) 3) × (mag f1 < 2048) → (f2 ≡ shrℤ (c B (read (read f +ℤ pos 3))) 3) × (mag f2 < 2048) → q0 ≡ sample B (read (read qs0 -ℤ read f1)) → p0 ≡ sample B (read (read ps0 +ℤ read f2)) → cond hev (set (set t 8 q0) 7 p0) (set (set (set (set t 8 q0) 7 p0) 9 (sample B (qs1 -ℤ Round2Z f1 1))) 6 (sample B (ps1 +ℤ Round2Z f1 1))) ≡ narrowFilter B hev t
+narrow-is : (B : ℕ) (hev : Bool) (t : List ℕ) (ps1 ps0 qs0 qs1 f f1 f2 : ℤ) (q0 p0 : ℕ) → (ps1 ≡ signed B (p t 1)) × (mag ps1 < 131072) → (ps0 ≡ signed B (p t 0)) × (mag ps0 < 131072) → (qs0 ≡ signed B (q t 0)) × (mag qs0 < 131072) → (qs1 ≡ signed B (q t 1)) × (mag qs1 < 131072) → (f ≡ c B (cond hev (c B (read ps1 -ℤ read qs1)) (pos 0) +ℤ pos 3 *ℤ (read qs0 -ℤ read ps0))) × (mag f < 2048) → (f1 ≡ asrZ (c B (read (read f +ℤ pos 4))) 3) × (mag f1 < 2048) → (f2 ≡ asrZ (c B (read (read f +ℤ pos 3))) 3) × (mag f2 < 2048) → q0 ≡ sample B (read (read qs0 -ℤ read f1)) → p0 ≡ sample B (read (read ps0 +ℤ read f2)) → cond hev (set (set t 8 q0) 7 p0) (set (set (set (set t 8 q0) 7 p0) 9 (sample B (qs1 -ℤ Round2Z f1 1))) 6 (sample B (ps1 +ℤ Round2Z f1 1))) ≡ narrowFilter B hev t
 unfolding narrowFilter
 narrow-is B hev t ps1 ps0 qs0 qs1 f f1 f2 q0 p0 (e1, b1) (e0, b0) (d0, a0) (d1, a1) (ef, bf) (ef1, bf1) (ef2, bf2) eq ep =
     rw (

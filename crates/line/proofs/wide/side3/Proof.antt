@@ -7,4 +7,4 @@ returns : tie.Need-returns
 returns c = (refl, refl, refl)
 
 pub side3-spec : {M : Type 1} → statement M
-side3-spec = tie.close (tie.spec (λ c. record { fits = omega arith }) (λ c. record { fits = omega arith }) (λ c. record { fits = omega arith }) (λ c. record { fits = omega arith }) (λ c. record { fits = omega arith }) (λ c. record { fits = omega arith }) (λ c. record { fits = omega arith }) (λ c. record { fits = omega arith }) (λ c. record { fits = omega arith }) (λ c. record { fits = omega arith }) (λ c. record { fits = omega arith }) (λ c. record { fits = omega arith }) (λ c. record { fits = omega arith }) (λ c. record { fits = omega arith }) (λ c. record { fits = omega arith }) (λ c. record { fits = omega arith }) (λ c. record { fits = omega arith }) (λ c. record { fits = omega arith }) (λ c. record { fits = omega arith }) returns)
+side3-spec = tie.close (tie.spec (λ c. record { fits = omega arith }) (λ c. record { fits = omega arith }) (λ c. record { fits = omega arith }) (λ c. record { fits = omega arith }) (λ c. record { fits = omega arith }) (λ c. record { fits = omega arith }) (λ c. record { fits = omega arith }) (λ c. record { fits = omega arith }) (λ c. record { fits = omega arith }) (λ c. record { fits = omega arith }) (λ c. record { fits = omega arith }) (λ c. record { fits = omega arith }) (λ c. record { fits = omega arith }) (λ c. record { fits = omega arith }) (λ c. record { fits = omega arith }) (λ c. record { fits = omega arith }) (λ c. record { fits = omega arith }) (λ c. record { fits = omega arith }) (λ c. record { fits = omega arith }) (λ c. record { fits = omega arith }) returns)

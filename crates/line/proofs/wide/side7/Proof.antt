@@ -9,4 +9,4 @@ returns c = (refl, refl, refl, refl, refl, refl, refl)
 pub side7-spec : {M : Type 1} → statement M
 side7-spec =
     tie.close
-    (tie.spec (λ c. record { fits = omega arith }) (λ c. record { fits = omega arith }) (λ c. record { fits = omega arith }) (λ c. record { fits = omega arith }) (λ c. record { fits = omega arith }) (λ c. record { fits = omega arith }) (λ c. record { fits = omega arith }) (λ c. record { fits = omega arith }) (λ c. record { fits = omega arith }) (λ c. record { fits = omega arith }) (λ c. record { fits = omega arith }) (λ c. record { fits = omega arith }) (λ c. record { fits = omega arith }) (λ c. record { fits = omega arith }) (λ c. record { fits = omega arith }) (λ c. record { fits = omega arith }) (λ c. record { fits = omega arith }) (λ c. record { fits = omega arith }) (λ c. record { fits = omega arith }) (λ c. record { fits = omega arith }) (λ c. record { fits = omega arith }) (λ c. record { fits = omega arith }) (λ c. record { fits = omega arith }) (λ c. record { fits = omega arith }) (λ c. record { fits = omega arith }) (λ c. record { fits = omega arith }) (λ c. record { fits = omega arith }) (λ c. record { fits = omega arith }) (λ c. record { fits = omega arith }) (λ c. record { fits = omega arith }) (λ c. record { fits = omega arith }) (λ c. record { fits = omega arith }) (λ c. record { fits = omega arith }) (λ c. record { fits = omega arith }) (λ c. record { fits = omega arith }) (λ c. record { fits = omega arith }) (λ c. record { fits = omega arith }) (λ c. record { fits = omega arith }) (λ c. record { fits = omega arith }) (λ c. record { fits = omega arith }) (λ c. record { fits = omega arith }) (λ c. record { fits = omega arith }) (λ c. record { fits = omega arith }) (λ c. record { fits = omega arith }) (λ c. record { fits = omega arith }) (λ c. record { fits = omega arith }) (λ c. record { fits = omega arith }) returns)
+    (tie.spec (λ c. record { fits = omega arith }) (λ c. record { fits = omega arith }) (λ c. record { fits = omega arith }) (λ c. record { fits = omega arith }) (λ c. record { fits = omega arith }) (λ c. record { fits = omega arith }) (λ c. record { fits = omega arith }) (λ c. record { fits = omega arith }) (λ c. record { fits = omega arith }) (λ c. record { fits = omega arith }) (λ c. record { fits = omega arith }) (λ c. record { fits = omega arith }) (λ c. record { fits = omega arith }) (λ c. record { fits = omega arith }) (λ c. record { fits = omega arith }) (λ c. record { fits = omega arith }) (λ c. record { fits = omega arith }) (λ c. record { fits = omega arith }) (λ c. record { fits = omega arith }) (λ c. record { fits = omega arith }) (λ c. record { fits = omega arith }) (λ c. record { fits = omega arith }) (λ c. record { fits = omega arith }) (λ c. record { fits = omega arith }) (λ c. record { fits = omega arith }) (λ c. record { fits = omega arith }) (λ c. record { fits = omega arith }) (λ c. record { fits = omega arith }) (λ c. record { fits = omega arith }) (λ c. record { fits = omega arith }) (λ c. record { fits = omega arith }) (λ c. record { fits = omega arith }) (λ c. record { fits = omega arith }) (λ c. record { fits = omega arith }) (λ c. record { fits = omega arith }) (λ c. record { fits = omega arith }) (λ c. record { fits = omega arith }) (λ c. record { fits = omega arith }) (λ c. record { fits = omega arith }) (λ c. record { fits = omega arith }) (λ c. record { fits = omega arith }) (λ c. record { fits = omega arith }) (λ c. record { fits = omega arith }) (λ c. record { fits = omega arith }) (λ c. record { fits = omega arith }) (λ c. record { fits = omega arith }) (λ c. record { fits = omega arith }) (λ c. record { fits = omega arith }) returns)
