@@ -1,9 +1,10 @@
 //! The inputs of docs/DIFFERENCES.md: where document 01 follows the Rust and not VP9-S, and where ours refuses.
 #![cfg(oracle)]
 
+use differential::lines::Line;
 use differential::{cases::*, rust};
 use oracle::superblock_loop_filter::hook_strength;
-use springspade::{Refused, level_table, strength};
+use springspade::{Refused, level_table, line, strength};
 
 /// Entries 0 and 1 of segment 0, intra for mode types 0 and 1: ours, which are the Rust's.
 fn intra(case: &Case) -> [u8; 2] {
@@ -44,4 +45,37 @@ fn sharpness_8() {
     let rust = hook_strength(63, 8);
     assert_eq!((rust.limit, rust.blimit, rust.thresh), (1, 131, 3));
     assert_eq!(strength(63, 8), Err(Refused { number: 1, place: 0 }));
+}
+
+/// Ours is refused; the Rust's four ways all give the line that is returned.
+fn line_refused(depth: u8, size: u8, taps: [u16; 16], number: u32) -> [u16; 16] {
+    let case = Line { depth, size, strength: strength(0, 0).unwrap(), taps };
+    let mut ours = taps;
+    let refused = line(&mut ours, depth, size, case.strength);
+    assert_eq!(refused, Err(Refused { number, place: 0 }));
+    assert_eq!(ours, taps);
+    let [rust, others @ ..] = rust::line(&case);
+    assert_eq!(others, [rust; 3]);
+    rust
+}
+
+/// All p 0, all q 2.
+const STEP_2: [u16; 16] = [0, 0, 0, 0, 0, 0, 0, 0, 2, 2, 2, 2, 2, 2, 2, 2];
+
+#[test]
+fn line_of_size_3() {
+    // As for size 2.
+    assert_eq!(line_refused(8, 3, STEP_2, 15), [0, 0, 0, 0, 1, 1, 1, 1, 1, 1, 1, 2, 2, 2, 2, 2]);
+}
+
+#[test]
+fn line_of_depth_9() {
+    assert_eq!(line_refused(9, 0, STEP_2, 2), [0, 0, 0, 0, 0, 0, 1, 1, 1, 1, 2, 2, 2, 2, 2, 2]);
+}
+
+#[test]
+fn line_of_sample_256() {
+    let mut after = [256; 16];
+    after[6..10].fill(255);
+    assert_eq!(line_refused(8, 0, [256; 16], 13), after);
 }
