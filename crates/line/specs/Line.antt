@@ -13,10 +13,10 @@ use Rattle.line.specs.declared.LineAnswer.{LineAnswer}
 use Rattle.line.specs.declared.LineAnswer.the-variants.{Done, Depth, Sample, Size}
 
 -- the sample at tap k is not below b
-abbrev pub reaches : ℕ → List ℕ → ℕ → Bool
+abbrev pub reaches : (b : ℕ) (t : List ℕ) (k : ℕ) → Bool
 reaches b t k = leb b (tap t k)
 
-unfoldable pub line : ℕ → ℕ → ℕ → ℕ → ℕ → List ℕ → Outcome (List ℕ)
+unfoldable pub line : (depth size limit blimit thresh : ℕ) (t : List ℕ) → Outcome (List ℕ)
 line depth size limit blimit thresh t =
     refuse (not (supported depth)) 2 0
     (refuseFirst (reaches (2 ^ depth) t) 16 13

@@ -10,23 +10,23 @@ use Rattle.base.specs.Notation.{Clip3, asrZ, Round2Z}
 use Rattle.line.specs.Taps.{p, q}
 
 -- c( v ): v clipped to the numbers of B bits with a sign
-unfoldable pub c : ℕ → ℤ → ℤ
+unfoldable pub c : (B : ℕ) (v : ℤ) → ℤ
 c B v = Clip3 (negℤ (pos (2 ^ (B - 1)))) (pos (2 ^ (B - 1) - 1)) v
 
 -- 0x80 << (B - 8)
-abbrev pub offset : ℕ → ℤ
+abbrev pub offset : (B : ℕ) → ℤ
 offset B = pos (scaled B 128)
 
 -- a sample less the offset, and a sum of such back among the samples
-abbrev pub signed : ℕ → ℕ → ℤ
+abbrev pub signed : (B x : ℕ) → ℤ
 signed B x = pos x -ℤ offset B
 
-unfoldable pub sample : ℕ → ℤ → ℕ
+unfoldable pub sample : (B : ℕ) (v : ℤ) → ℕ
 sample B v = natAbs (c B v +ℤ offset B)
 
 -- steps 1 to 8. The standard's filter is here base after step 2, filter after step 3 and rounded in step 8; inner is the
 -- line after steps 6 and 7.
-unfoldable pub narrowFilter : ℕ → Bool → List ℕ → List ℕ
+unfoldable pub narrowFilter : (B : ℕ) (hevMask : Bool) (t : List ℕ) → List ℕ
 narrowFilter B hevMask t =
     let ps1 = signed B (p t 1) in
     let ps0 = signed B (p t 0) in

@@ -9,7 +9,7 @@ use Rattle.line.specs.Masks.{hevMask, filterMask, flatMask, flatMask2}
 use Rattle.line.specs.NarrowFilter.{narrowFilter}
 use Rattle.line.specs.WideFilter.{wideFilter}
 
-unfoldable pub sampleFiltering : ℕ → ℕ → ℕ → ℕ → ℕ → List ℕ → List ℕ
+unfoldable pub sampleFiltering : (B filterSize limit blimit thresh : ℕ) (t : List ℕ) → List ℕ
 sampleFiltering B filterSize limit blimit thresh t =
     cond (filterMask (scaled B limit) (scaled B blimit) t)
     (cond (eqb filterSize 0 || not (flatMask (scaled B 1) t))

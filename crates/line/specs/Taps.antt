@@ -7,18 +7,18 @@ use native.Mathlib.Omega.{arith}
 use lib.IntN.{ℤ, pos, negsuc}
 use lib.ListN.{getD}
 
-abbrev pub tap : List ℕ → ℕ → ℕ
+abbrev pub tap : (t : List ℕ) (k : ℕ) → ℕ
 tap t k = getD t k 0
 
 -- p_k and q_k
-abbrev pub p : List ℕ → ℕ → ℕ
+abbrev pub p : (t : List ℕ) (k : ℕ) → ℕ
 p t k = tap t (7 - k)
 
-abbrev pub q : List ℕ → ℕ → ℕ
+abbrev pub q : (t : List ℕ) (k : ℕ) → ℕ
 q t k = tap t (8 + k)
 
 -- F[ i ]: q_i for i from 0 on, p_( -i - 1 ) below
-abbrev pub F : List ℕ → ℤ → ℕ
+abbrev pub F : (t : List ℕ) (i : ℤ) → ℕ
 F t (pos k) = q t k
 F t (negsuc k) = p t k
 

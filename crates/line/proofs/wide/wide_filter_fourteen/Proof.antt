@@ -1,4 +1,4 @@
-use borrow.Author.Needs.{needs}
+use lib.Dec.{lit<}
 use denote.Ref.{now}
 use Rattle.line.specs.WideSums.{wide-fourteen}
 use Rattle.line.proofs.wide.wide_filter_fourteen.Statement.{statement}
@@ -13,4 +13,4 @@ returns c =
 pub wide-filter-fourteen-spec : {M : Type 1} → statement M
 wide-filter-fourteen-spec =
     tie.close
-    (tie.spec (search needs) (search needs) (search needs) (search needs) (search needs) (search needs) (search needs) (search needs) (search needs) (search needs) (search needs) (search needs) (search needs) (search needs) (search needs) (search needs) (search needs) (search needs) (search needs) (search needs) (search needs) (search needs) (search needs) (search needs) (search needs) (search needs) (search needs) (search needs) (search needs) (search needs) (search needs) (search needs) returns)
+    (tie.spec (λ c. lit< tt) (λ c. lit< tt) (λ c. lit< tt) (λ c. lit< tt) (λ c. lit< tt) (λ c. lit< tt) (λ c. lit< tt) (λ c. lit< tt) (λ c. lit< tt) (λ c. lit< tt) (λ c. lit< tt) (λ c. lit< tt) (λ c. lit< tt) (λ c. lit< tt) (λ c. lit< tt) (λ c. lit< tt) (λ c κs. tt) (λ c κs. tt) (λ c. lit< tt) (λ c. lit< tt) (λ c. lit< tt) (λ c. lit< tt) (λ c. lit< tt) (λ c. lit< tt) (λ c. lit< tt) (λ c. lit< tt) (λ c. lit< tt) (λ c. lit< tt) (λ c. lit< tt) (λ c. lit< tt) (λ c. lit< tt) (λ c. lit< tt) returns)
