@@ -22,7 +22,7 @@ pub record Scaled (B : ℕ) : Type 0 where
   pub half : 2 ^ (B - 1) ≡ 128 * 2 ^ (B - 8)
   pub range : 2 ^ B ≡ 256 * 2 ^ (B - 8)
 
--- the three are told apart here and nowhere else
+-- proofs tell the three apart here and nowhere else
 pub depth-scaled : (B : ℕ) → supported B ≡ true → Scaled B
 unfolding supported
 depth-scaled B h = cases (eqb B 8) (eqb B 10) (eqb B 12) refl refl refl h

@@ -1,10 +1,13 @@
 -- The first place at which a test holds, and the refusal that names it.
 -- Assumes nothing.
-use mathlib.Core.Path.{_≡_, refl}
+use mathlib.Core.Path.{_≡_, refl, sym, _∙_, subst}
+use mathlib.Core.Logic.{_⊎_, inl, inr, ⊎-elim}
 use mathlib.Core.Bool.{Bool, true, false, cond, _||_}
 use Prim.Native.Nat.{ℕ, zero, suc, _+_, _-_, _≤_, _<_}
+use native.Mathlib.Nat.{eq-or-lt-of-le}
 use native.Mathlib.Numerals.{add-one}
 use native.Mathlib.Omega.{arith}
+use lib.Dec.{T}
 use Rattle.base.specs.Outcome.{Outcome, refuse}
 
 -- whether the test holds at one of the first n places
@@ -37,6 +40,37 @@ pub found-none : (test : ℕ → Bool) (n : ℕ) → ((k : ℕ) → k < n → te
 unfolding found
 found-none test zero h = refl
 found-none test (suc n) h = rw (found-none test n (λ k p. h k (omega arith)), h n (omega arith))
+
+-- where the test holds at one of n places, the first is among them, it holds there, and at none before
+pub record First (test : ℕ → Bool) (k n i : ℕ) : Type 0 where
+  pub from : k ≤ i
+  pub to : i < k + n
+  pub holds : test i ≡ true
+  pub least : (j : ℕ) → k ≤ j → j < i → test j ≡ false
+
+-- a search finds the first place, or the test holds nowhere
+search-from : (test : ℕ → Bool) (k n : ℕ) → First test k n (firstFrom test k n) ⊎ ((j : ℕ) → k ≤ j → j < k + n → test j ≡ false)
+unfolding firstFrom
+search-from test k zero = inr (λ j p q. absurd (omega arith))
+search-from test k (suc n) = cases (test k) refl (search-from test (k + 1) n)
+  where
+    here-or-later : (j : ℕ) → test k ≡ false → k ≤ j → (k + 1 ≤ j → test j ≡ false) → test j ≡ false
+    here-or-later j e p h = ⊎-elim (λ (q : k ≡ j). rw q at e) (λ (q : k < j). h (omega arith)) (eq-or-lt-of-le p)
+
+    cases : (b : Bool) → test k ≡ b → First test (k + 1) n (firstFrom test (k + 1) n) ⊎ ((j : ℕ) → k + 1 ≤ j → j < k + 1 + n → test j ≡ false) → First test k (suc n) (cond b k (firstFrom test (k + 1) n)) ⊎ ((j : ℕ) → k ≤ j → j < k + suc n → test j ≡ false)
+    cases true e r = inl (record { from = omega arith; to = omega arith; holds = e; least = λ j p q. absurd (omega arith) })
+    cases false e (inl f) =
+        let from = f .from in
+        let to = f .to in
+        inl (record { from = omega arith; to = omega arith; holds = f .holds; least = λ j p q. here-or-later j e p (λ h. f .least j h q) })
+    cases false e (inr g) = inr (λ j p q. here-or-later j e p (λ h. g j h (omega arith)))
+
+pub first-is : (test : ℕ → Bool) (n : ℕ) → found test n ≡ true → First test 0 n (first test n)
+first-is test n e =
+    ⊎-elim (λ f. f) (λ (g : (j : ℕ) → 0 ≤ j → j < 0 + n → test j ≡ false). absurd (differ (found-none test n (λ k h. g k (omega arith) (omega arith))))) (search-from test 0 n)
+  where
+    differ : found test n ≡ false → ⊥
+    differ f = absurd (subst T (sym e ∙ f) tt)
 
 -- a search that has come to place k of n: it ends there, or goes on
 pub first-here : (test : ℕ → Bool) (k n : ℕ) → k < n → test k ≡ true → firstFrom test k (n - k) ≡ k

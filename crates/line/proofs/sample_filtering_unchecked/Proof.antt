@@ -1,6 +1,6 @@
 use borrow.Author.Needs.{needs}
 use mathlib.Core.Path.{_≡_, _∙_}
-use mathlib.Core.Bool.{true, false, not, _||_}
+use mathlib.Core.Bool.{Bool, true, false, not, _||_}
 use lib.Dec.{eqb}
 use denote.Ref.{now}
 use borrow.Author.Tests.{not-true, not-false}
@@ -40,29 +40,27 @@ returns-2 c =
     (rw (hev .hev-mask .ensures, hev .before .scaled4 .ensures .0) at (c .narrow-filter .ensures))
     ∙ filters-narrow (a .depth) (a .size) (a .limit) (a .blimit) (a .thresh) (now (a .t)) (mask-on at-if1) narrow
 
+-- how the test of outer flat came out
+outer : (c : tie.After-flat-mask2) (b : Bool) → let a = c .before .before .before .before .before .before .before .before .before .before .before .before .args in eqb (a .size) 1 || not (c .flat-mask2 .result) ≡ b → eqb (a .size) 1 || not (flatMask2 (scaled (a .depth) 1) (now (a .t))) ≡ b
+outer c b h = rw (c .flat-mask2 .ensures, c .before .scaled5 .ensures .0) at h
+
 returns-3 : tie.Need-returns-3
 returns-3 c =
-    let at-if3 = c .before .before in
-    let at-flat2 = at-if3 .before in
+    let at-flat2 = c .before .before .before in
     let at-if2 = at-flat2 .before .before .before in
     let at-if1 = at-if2 .before .before .before .before in
     let a = at-if1 .before .before .before .before .before .args in
-    let six : eqb (a .size) 1 || not (flatMask2 (scaled (a .depth) 1) (now (a .t))) ≡ true =
-    rw (at-flat2 .flat-mask2 .ensures, at-flat2 .before .scaled5 .ensures .0) at (at-if3 .if3 .taken) in
     c .wide-filter-six .ensures
-    ∙ filters-six (a .depth) (a .size) (a .limit) (a .blimit) (a .thresh) (now (a .t)) (mask-on at-if1) (flat-on at-if2) six
+    ∙ filters-six (a .depth) (a .size) (a .limit) (a .blimit) (a .thresh) (now (a .t)) (mask-on at-if1) (flat-on at-if2) (outer at-flat2 true (c .before .before .if3 .taken))
 
 returns-4 : tie.Need-returns-4
 returns-4 c =
-    let at-if3 = c .before .before in
-    let at-flat2 = at-if3 .before in
+    let at-flat2 = c .before .before .before in
     let at-if2 = at-flat2 .before .before .before in
     let at-if1 = at-if2 .before .before .before .before in
     let a = at-if1 .before .before .before .before .before .args in
-    let fourteen : eqb (a .size) 1 || not (flatMask2 (scaled (a .depth) 1) (now (a .t))) ≡ false =
-    rw (at-flat2 .flat-mask2 .ensures, at-flat2 .before .scaled5 .ensures .0) at (at-if3 .if3 .left) in
     c .wide-filter-fourteen .ensures
-    ∙ filters-fourteen (a .depth) (a .size) (a .limit) (a .blimit) (a .thresh) (now (a .t)) (mask-on at-if1) (flat-on at-if2) fourteen
+    ∙ filters-fourteen (a .depth) (a .size) (a .limit) (a .blimit) (a .thresh) (now (a .t)) (mask-on at-if1) (flat-on at-if2) (outer at-flat2 false (c .before .before .if3 .left))
 
 pub sample-filtering-unchecked-spec : {M : Type 1} → statement M
 sample-filtering-unchecked-spec =
