@@ -1,0 +1,15 @@
+use borrow.Author.Needs.{needs}
+use native.Mathlib.Omega.{arith}
+use Prim.Native.Nat.{_<_}
+use Rattle.base.specs.Entries.{entry}
+use Rattle.blocks.specs.BlockSizes.{miWidthLog2}
+use Rattle.blocks.proofs.partition.mi_width_log2_unchecked.Statement.{statement}
+use Rattle.blocks.proofs.partition.mi_width_log2_unchecked.Tie as tie
+
+-- the table's rule, tested at each entry
+returns : tie.Need-returns
+unfolding miWidthLog2
+returns c = let below : c .args .size < 13 = omega arith in rw (entry miWidthLog2)
+
+pub mi-width-log2-unchecked-spec : {M : Type 1} → statement M
+mi-width-log2-unchecked-spec = tie.close (tie.spec (search needs) returns)

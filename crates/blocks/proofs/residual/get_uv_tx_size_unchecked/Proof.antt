@@ -1,0 +1,61 @@
+use borrow.Author.Needs.{needs}
+use borrow.Author.Tests.{lt-ltb, le-ltb, eq-eqb, ne-eqb}
+use mathlib.Core.Logic.{⊎-elim}
+use mathlib.Core.Path.{_≡_, sym, _∙_}
+use mathlib.Core.Bool.{false}
+use Prim.Native.Nat.{_≤_}
+use lib.Dec.{eqb, ltb}
+use native.Mathlib.Omega.{arith}
+use Rattle.blocks.specs.BlockSizes.{invalid, ssSize, uvTxSize}
+use Rattle.blocks.specs.BlockSizesLaws.{ss-size}
+use Rattle.blocks.proofs.residual.get_uv_tx_size_unchecked.Statement.{statement}
+use Rattle.blocks.proofs.residual.get_uv_tx_size_unchecked.Tie as tie
+
+returns : tie.Need-returns
+unfolding uvTxSize
+returns c = rw (lt-ltb _ _ (c .if1 .taken))
+
+returns-2 : tie.Need-returns-2
+unfolding uvTxSize
+returns-2 c =
+    rw (le-ltb _ _ (c .before .before .if1 .left), eq-eqb _ _ (sym (c .before .ss-size-unchecked .ensures) ∙ c .if2 .taken))
+
+-- past the second test the chroma shape exists
+exists : (c : tie.Else2) → c .before .ss-size-unchecked .result ≤ 12
+exists c = 
+    let a = c .before .before .before .args in
+    let e = c .before .ss-size-unchecked .ensures in
+    ⊎-elim (λ h. absurd (c .if2 .left (e ∙ h))) (λ h. rw e h) (ss-size (a .mi-size) (a .subx) (a .suby))
+
+module _ (c : tie.After-max-tx-size-unchecked) where
+  abbrev at-if2 : tie.Else2
+  at-if2 = c .before
+
+  large : ltb (at-if2 .before .before .before .args .mi-size) 3 ≡ false
+  large = le-ltb _ _ (at-if2 .before .before .if1 .left)
+
+  valid : eqb (ssSize (at-if2 .before .before .before .args .mi-size) (at-if2 .before .before .before .args .subx) (at-if2 .before .before .before .args .suby)) 14 ≡ false
+  valid = ne-eqb _ _ (λ h. at-if2 .if2 .left (at-if2 .before .ss-size-unchecked .ensures ∙ h))
+
+returns-3 : tie.Need-returns-3
+unfolding uvTxSize
+returns-3 c =
+    let m = c .before in
+    rw (large m, valid m, sym (m .before .before .ss-size-unchecked .ensures), sym (m .max-tx-size-unchecked .ensures)) (omega arith)
+
+returns-4 : tie.Need-returns-4
+unfolding uvTxSize
+returns-4 c =
+    let m = c .before in
+    rw (large m, valid m, sym (m .before .before .ss-size-unchecked .ensures), sym (m .max-tx-size-unchecked .ensures)) (omega arith)
+
+pub get-uv-tx-size-unchecked-spec : {M : Type 1} → statement M
+get-uv-tx-size-unchecked-spec =
+    tie.close
+    (tie.spec
+    returns
+    (search needs)
+    returns-2
+    (λ c κs. exists c)
+    returns-3
+    returns-4)

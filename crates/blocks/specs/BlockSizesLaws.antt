@@ -1,0 +1,41 @@
+-- Laws of block sizes for their users.
+-- Assumes nothing.
+use mathlib.Core.Path.{_≡_, refl}
+use mathlib.Core.Bool.{Bool, true, false}
+use mathlib.Core.Logic.{_⊎_, inl, inr}
+use Prim.Native.Nat.{ℕ, _≤_, min}
+use native.Mathlib.Omega.{arith}
+use lib.Dec.{eqb, ltb}
+use Rattle.base.specs.First.{found, first, first-is}
+use Rattle.blocks.specs.BlockSizes.{miWidthLog2, miHeightLog2, maxTxSize, invalid, subsampledTo, ssSize, uvTxSize}
+
+-- a block is at most 8 cells wide and high
+pub width-small : (size : ℕ) → size ≤ 12 → miWidthLog2 size ≤ 3
+unfolding miWidthLog2
+width-small size h = omega arith
+
+pub height-small : (size : ℕ) → size ≤ 12 → miHeightLog2 size ≤ 3
+unfolding miHeightLog2
+height-small size h = omega arith
+
+-- a chroma block that exists has one of the 13 sizes
+pub ss-size : (size : ℕ) (subX subY : Bool) → (ssSize size subX subY ≡ invalid) ⊎ (ssSize size subX subY ≤ 12)
+unfolding ssSize
+ss-size size subX subY = cases (found (subsampledTo size subX subY) 13) refl
+  where
+    cases : (t : Bool) → found (subsampledTo size subX subY) 13 ≡ t → (ssSize size subX subY ≡ invalid) ⊎ (ssSize size subX subY ≤ 12)
+    cases true e = let f = first-is (subsampledTo size subX subY) 13 e in inr (rw e (omega (arith, f .to)))
+    cases false e = inl (rw e)
+
+-- a chroma transform is no larger than the luma one
+pub uv-tx-small : (txSize miSize : ℕ) (subX subY : Bool) → uvTxSize txSize miSize subX subY ≤ txSize
+unfolding uvTxSize
+uv-tx-small txSize miSize subX subY = cases (ltb miSize 3) (eqb (ssSize miSize subX subY) invalid) refl refl
+  where
+    least : (a b : ℕ) → min a b ≤ a
+    least a b = omega arith
+
+    cases : (s t : Bool) → ltb miSize 3 ≡ s → eqb (ssSize miSize subX subY) invalid ≡ t → uvTxSize txSize miSize subX subY ≤ txSize
+    cases true t e f = rw e (omega arith)
+    cases false true e f = rw (e, f) (omega arith)
+    cases false false e f = rw (e, f) (least txSize (maxTxSize (ssSize miSize subX subY)))

@@ -1,0 +1,2 @@
+pub mod BlockSizes
+pub mod BlockSizesLaws

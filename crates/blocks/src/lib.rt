@@ -1,0 +1,3 @@
+// Block sizes and their transforms.
+pub mod partition;
+pub mod residual;
