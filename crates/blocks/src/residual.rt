@@ -13,19 +13,58 @@ const MAX_TXSIZE_LOOKUP: [u8; 13] = [0, 0, 0, 1, 1, 1, 2, 2, 2, 3, 3, 3, 3];
 
 // ss_size_lookup[ size ][ subX ][ subY ], flat: at size times 4 plus subX times 2 plus subY.
 const SS_SIZE_LOOKUP: [u8; 52] = [
-    0, 14, 14, 14, // 4x4
-    1, 0, 14, 14, // 4x8
-    2, 14, 0, 14, // 8x4
-    3, 2, 1, 0, // 8x8
-    4, 3, 14, 1, // 8x16
-    5, 14, 3, 2, // 16x8
-    6, 5, 4, 3, // 16x16
-    7, 6, 14, 4, // 16x32
-    8, 14, 6, 5, // 32x16
-    9, 8, 7, 6, // 32x32
-    10, 9, 14, 7, // 32x64
-    11, 14, 9, 8, // 64x32
-    12, 11, 10, 9, // 64x64
+    0,
+    14,
+    14,
+    14, // 4x4
+    1,
+    0,
+    14,
+    14, // 4x8
+    2,
+    14,
+    0,
+    14, // 8x4
+    3,
+    2,
+    1,
+    0, // 8x8
+    4,
+    3,
+    14,
+    1, // 8x16
+    5,
+    14,
+    3,
+    2, // 16x8
+    6,
+    5,
+    4,
+    3, // 16x16
+    7,
+    6,
+    14,
+    4, // 16x32
+    8,
+    14,
+    6,
+    5, // 32x16
+    9,
+    8,
+    7,
+    6, // 32x32
+    10,
+    9,
+    14,
+    7, // 32x64
+    11,
+    14,
+    9,
+    8, // 64x32
+    12,
+    11,
+    10,
+    9, // 64x64
 ];
 
 fn max_tx_size_unchecked(size: u8) -> u8
@@ -42,9 +81,17 @@ fn ss_size_unchecked(size: u8, subx: bool, suby: bool) -> u8
 {
     let at = size as usize * 4;
     if subx {
-        if suby { SS_SIZE_LOOKUP[at + 3] } else { SS_SIZE_LOOKUP[at + 2] }
+        if suby {
+            SS_SIZE_LOOKUP[at + 3]
+        } else {
+            SS_SIZE_LOOKUP[at + 2]
+        }
     } else {
-        if suby { SS_SIZE_LOOKUP[at + 1] } else { SS_SIZE_LOOKUP[at] }
+        if suby {
+            SS_SIZE_LOOKUP[at + 1]
+        } else {
+            SS_SIZE_LOOKUP[at]
+        }
     }
 }
 

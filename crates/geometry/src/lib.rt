@@ -31,7 +31,11 @@ impl Luma {
     pub fn in_plane(self, sub: bool) -> Plane
         ensures { λ r. ⌜ r .0 ≡ shr (self .0) sub ⌝ }
     {
-        if sub { Plane(self.0 / 2) } else { Plane(self.0) }
+        if sub {
+            Plane(self.0 / 2)
+        } else {
+            Plane(self.0)
+        }
     }
 }
 

@@ -22,7 +22,7 @@ returns-2 c =
 
 -- past the second test the chroma shape exists
 exists : (c : tie.Else2) → c .before .ss-size-unchecked .result ≤ 12
-exists c = 
+exists c =
     let a = c .before .before .before .args in
     let e = c .before .ss-size-unchecked .ensures in
     ⊎-elim (λ h. absurd (c .if2 .left (e ∙ h))) (λ h. rw e h) (ss-size (a .mi-size) (a .subx) (a .suby))
