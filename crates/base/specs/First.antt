@@ -4,11 +4,12 @@ use mathlib.Core.Path.{_≡_, refl, sym, _∙_, subst}
 use mathlib.Core.Logic.{_⊎_, inl, inr, ⊎-elim}
 use mathlib.Core.Bool.{Bool, true, false, cond, _||_}
 use Prim.Native.Nat.{ℕ, zero, suc, _+_, _-_, _≤_, _<_}
-use native.Mathlib.Nat.{eq-or-lt-of-le}
+use native.Mathlib.Nat.{eq-or-lt-of-le, le-of-suc-le-suc, not-suc-le-zero}
 use native.Mathlib.Numerals.{add-one}
 use native.Mathlib.Omega.{arith}
 use lib.Dec.{T}
 use Rattle.base.specs.Outcome.{Outcome, refuse}
+use Rattle.base.specs.Tests.{neither}
 
 -- whether the test holds at one of the first n places
 unfoldable pub found : (ℕ → Bool) → ℕ → Bool
@@ -40,6 +41,14 @@ pub found-none : (test : ℕ → Bool) (n : ℕ) → ((k : ℕ) → k < n → te
 unfolding found
 found-none test zero h = refl
 found-none test (suc n) h = rw (found-none test n (λ k p. h k (omega arith)), h n (omega arith))
+
+-- and where it was not found, it holds at none of them
+pub found-false : (test : ℕ → Bool) (n : ℕ) → found test n ≡ false → (k : ℕ) → k < n → test k ≡ false
+unfolding found
+found-false test zero e k h = absurd (not-suc-le-zero h)
+found-false test (suc n) e k h =
+    let s = neither (found test n) e in
+    ⊎-elim (λ (q : k ≡ n). rw q (s .1)) (λ (q : k < n). found-false test n (s .0) k q) (eq-or-lt-of-le (le-of-suc-le-suc h))
 
 -- where the test holds at one of n places, the first is among them, it holds there, and at none before
 pub record First (test : ℕ → Bool) (k n i : ℕ) : Type 0 where

@@ -43,26 +43,33 @@ impl LvlLookup {
         LvlLookup { levels: [0u8; 64] }
     }
 
-    // Takes any segment, reference and mode type.
     pub fn get(self, segment_id: usize, ref_frame: i32, mode: usize) -> Lookup
         ensures { λ r. ⌜ r ≡ lookupOf (self .levels) «segment_id» «ref_frame» mode ⌝ }
     {
-        if Self::MAX_SEGMENTS <= segment_id {
-            return Lookup::Nothing;
-        }
-        if Self::MAX_MODE_LF_DELTAS <= mode {
-            return Lookup::Nothing;
-        }
-        if ref_frame < 0 {
-            return Lookup::Nothing;
-        }
-        let r = ref_frame as usize;
-        if Self::MAX_REF_FRAMES <= r {
-            return Lookup::Nothing;
-        }
-        let at = segment_id * 8 + r * 2 + mode;
-        Lookup::Found(self.levels[at])
+        let levels = self.levels;
+        find_level(&levels, segment_id, ref_frame, mode)
     }
+}
+
+// The entry of any segment, reference and mode type, of a table that is lent.
+pub fn find_level(levels: &[u8; 64], segment_id: usize, ref_frame: i32, mode: usize) -> Lookup
+    ensures { λ r. ⌜ r ≡ lookupOf (now (levels .entry)) «segment_id» «ref_frame» mode ⌝ }
+{
+    if LvlLookup::MAX_SEGMENTS <= segment_id {
+        return Lookup::Nothing;
+    }
+    if LvlLookup::MAX_MODE_LF_DELTAS <= mode {
+        return Lookup::Nothing;
+    }
+    if ref_frame < 0 {
+        return Lookup::Nothing;
+    }
+    let r = ref_frame as usize;
+    if LvlLookup::MAX_REF_FRAMES <= r {
+        return Lookup::Nothing;
+    }
+    let at = segment_id * 8 + r * 2 + mode;
+    Lookup::Found(levels[at])
 }
 
 // The deltas that hold in a frame.

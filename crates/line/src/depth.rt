@@ -1,14 +1,8 @@
-// The bit depth: 8, 10 or 12.
+// Numbers at the scale of the bit depth.
 ghost use mathlib.Core.Path.{_≡_};
 ghost use mathlib.Core.Bool.{true};
 ghost use Prim.Native.Nat.{_<_};
 ghost use Rattle.base.specs.Depth.{supported, scaled};
-
-pub(crate) fn is_supported(depth: u8) -> bool
-    ensures { λ r. ⌜ r ≡ supported depth ⌝ }
-{
-    (depth == 8) | (depth == 10) | (depth == 12)
-}
 
 // v << (depth - 8): a number at the scale of the depth.
 pub(crate) fn scaled(v: u8, depth: u8) -> u32

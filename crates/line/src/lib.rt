@@ -14,7 +14,7 @@ mod narrow;
 mod taps;
 mod wide;
 
-use depth::is_supported;
+use base::is_supported;
 use depth::scaled;
 use masks::filter_mask;
 use masks::flat_mask;
