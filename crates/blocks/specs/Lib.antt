@@ -1,2 +1,4 @@
 pub mod BlockSizes
 pub mod BlockSizesLaws
+pub mod ModeInfo
+pub mod ModeInfoLaws

@@ -1,3 +1,4 @@
-// Block sizes and their transforms.
+// Block sizes, their transforms, and what the loop filter reads of a cell's mode info.
+pub mod mode_info;
 pub mod partition;
 pub mod residual;
