@@ -1,6 +1,7 @@
 // Where a pass works: the frame, the superblock, the two directions, the two kinds of coordinate.
 ghost use mathlib.Core.Path.{_≡_};
-ghost use Rattle.geometry.specs.Frame.{badSubsampling, badFrameSize, badStart};
+ghost use Prim.Native.Nat.{_≤_};
+ghost use Rattle.geometry.specs.Frame.{badSubsampling, badFrameSize, badStart, cellsFrom};
 ghost use Rattle.geometry.specs.Coordinates.{shr};
 
 // Pass 0 filters across vertical edges, pass 1 across horizontal ones.
@@ -58,4 +59,13 @@ pub fn bad_start(start: usize, count: usize) -> bool
     ensures { λ r. ⌜ r ≡ badStart start count ⌝ }
 {
     (start % 8 != 0) | (count <= start)
+}
+
+// The cells of the superblock row that starts at row, of a frame that was tested.
+pub fn cell_count_unchecked(row: usize, cols: usize, rows: usize) -> usize
+    requires { ⌜ (row ≤ rows) × (cols ≤ 8192) ⌝ }
+    ensures { λ r. ⌜ r ≡ cellsFrom row cols rows ⌝ }
+{
+    let left = rows - row;
+    if left < 8 { left * cols } else { 8 * cols }
 }

@@ -1,6 +1,6 @@
 -- The level table of a frame: loop_filter_frame_init( ), 8.8.1.
 -- Assumes nothing.
-use mathlib.Core.Bool.{cond, not, _&&_}
+use mathlib.Core.Bool.{Bool, true, false, cond, not, _&&_}
 use mathlib.Core.List.{List}
 use Prim.Native.Nat.{ℕ, _+_, _*_, _/_, _%_}
 use lib.Dec.{eqb, ltb}
@@ -96,3 +96,12 @@ lookupOf levels segment ref mode =
     cond (ltb segment 8 && ltb mode 2 && not (ltZ ref (pos 0)) && ltb (natAbs ref) 4)
     (Found (getD levels (levelAt segment (natAbs ref) mode) 0))
     Nothing
+
+-- whether there is an entry, and its level, or 0
+abbrev pub isFound : Lookup → Bool
+isFound (Found lvl) = true
+isFound Nothing = false
+
+abbrev pub foundLevel : Lookup → ℕ
+foundLevel (Found lvl) = lvl
+foundLevel Nothing = 0

@@ -1,15 +1,24 @@
 -- Laws of the strength for its users.
 -- Assumes nothing.
 use mathlib.Core.Path.{_≡_, refl}
-use mathlib.Core.Bool.{Bool, true, false}
-use Prim.Native.Nat.{ℕ, _-_, _/_, _≤_, max}
+use mathlib.Core.Bool.{Bool, true, false, cond, _||_}
+use Prim.Native.Nat.{ℕ, _-_, _/_, _≤_, _<_, max}
 use native.Mathlib.Nat.{div-le-self}
 use native.Mathlib.Omega.{arith}
-use lib.Dec.{ltb}
+use lib.Dec.{eqb, ltb}
 use lib.IntN.{pos, natAbs}
 use Rattle.base.specs.Notation.{Clip3}
 use Rattle.base.specs.NotationLaws.{clip-below}
-use Rattle.strength.specs.Strength.{limitOf}
+use Rattle.strength.specs.Strength.{modeType, limitOf}
+
+-- a mode type is 0 or 1
+pub mode-type-small : (mode : ℕ) → modeType mode < 2
+unfolding modeType
+mode-type-small mode = cases (eqb mode 10 || eqb mode 11 || eqb mode 13)
+  where
+    cases : (t : Bool) → cond t 1 0 < 2
+    cases true = omega arith
+    cases false = omega arith
 
 -- a limit is at most 63
 pub limit-small : (lvl sharpness : ℕ) → lvl ≤ 63 → limitOf lvl sharpness ≤ 63

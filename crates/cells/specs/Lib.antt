@@ -1,0 +1,4 @@
+pub mod Cell
+pub mod CellLaws
+pub mod Row
+pub mod RowLaws
