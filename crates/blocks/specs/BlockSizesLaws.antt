@@ -3,11 +3,12 @@
 use mathlib.Core.Path.{_≡_, refl}
 use mathlib.Core.Bool.{Bool, true, false}
 use mathlib.Core.Logic.{_⊎_, inl, inr}
-use Prim.Native.Nat.{ℕ, _≤_, min}
+use Prim.Native.Nat.{ℕ, _^_, _≤_, _<_, min}
+use native.Mathlib.Nat.{one-le-pow, pow-le-pow-right}
 use native.Mathlib.Omega.{arith}
 use lib.Dec.{eqb, ltb}
 use Rattle.base.specs.First.{found, first, first-is}
-use Rattle.blocks.specs.BlockSizes.{miWidthLog2, miHeightLog2, maxTxSize, invalid, subsampledTo, ssSize, uvTxSize}
+use Rattle.blocks.specs.BlockSizes.{miWidthLog2, miHeightLog2, num8x8Wide, num8x8High, maxTxSize, invalid, subsampledTo, ssSize, uvTxSize}
 
 -- a block is at most 8 cells wide and high
 pub width-small : (size : ℕ) → size ≤ 12 → miWidthLog2 size ≤ 3
@@ -17,6 +18,22 @@ width-small size h = omega arith
 pub height-small : (size : ℕ) → size ≤ 12 → miHeightLog2 size ≤ 3
 unfolding miHeightLog2
 height-small size h = omega arith
+
+-- and at least one
+pub record Cells (n : ℕ) : Type 0 where
+  pub some : 0 < n
+  pub few : n ≤ 8
+
+cells : {n : ℕ} → n ≤ 3 → Cells (2 ^ n)
+cells {n} h = record { some = one-le-pow n 2 (omega arith); few = pow-le-pow-right {n = 2} (omega arith) h }
+
+pub wide-cells : (size : ℕ) → size ≤ 12 → Cells (num8x8Wide size)
+unfolding num8x8Wide
+wide-cells size h = cells (width-small size h)
+
+pub high-cells : (size : ℕ) → size ≤ 12 → Cells (num8x8High size)
+unfolding num8x8High
+high-cells size h = cells (height-small size h)
 
 -- a chroma block that exists has one of the 13 sizes
 pub ss-size : (size : ℕ) (subX subY : Bool) → (ssSize size subX subY ≡ invalid) ⊎ (ssSize size subX subY ≤ 12)
