@@ -1,3 +1,4 @@
 pub mod SuperblockFilter
 pub mod FilterSize
 pub mod Edge
+pub mod EdgeLaws

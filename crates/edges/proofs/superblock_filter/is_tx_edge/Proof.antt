@@ -1,0 +1,12 @@
+use borrow.Author.Needs.{needs}
+use Rattle.edges.specs.SuperblockFilter.{isTxEdge}
+use Rattle.edges.proofs.superblock_filter.is_tx_edge.Statement.{statement}
+use Rattle.edges.proofs.superblock_filter.is_tx_edge.Tie as tie
+
+returns : tie.Need-returns
+unfolding isTxEdge
+returns c = rw (c .last-column .ensures, c .before .edges-of-transform .ensures .0)
+
+pub is-tx-edge-spec : {M : Type 1} → statement M
+is-tx-edge-spec =
+    tie.close (tie.spec (search needs) (search needs) (search needs) returns)
