@@ -1,6 +1,6 @@
 // One position of a superblock, plane and pass (8.8.2).
 ghost use mathlib.Core.Path.{_≡_};
-ghost use Prim.Native.Nat.{_+_, _*_, _^_, _≤_, _<_};
+ghost use Prim.Native.Nat.{_*_, _^_, _≤_, _<_};
 ghost use Rattle.geometry.specs.Coordinates.{shl, shr};
 ghost use Rattle.edges.specs.SuperblockFilter.{Placed, edgeCount, edgeLen, lumaX, lumaY, loopCell, sbSize, isIntra, lastColumn, isTxEdge, is32Edge, atBorder, onScreen, applyFilter};
 ghost use Rattle.edges.specs.Edge.{blockEdge, edgeFacts, Sound, badMi, passOf, superblockFilterEdge, outcomeOf};
