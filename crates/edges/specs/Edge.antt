@@ -1,15 +1,16 @@
 -- Document 01's edge facts: 8.8.2 steps 1 to 15 at one position, with refusals.
 -- Assumes nothing.
 use mathlib.Core.Bool.{Bool, cond, _||_}
-use Prim.Native.Nat.{ℕ, _≤_}
+use Prim.Native.Nat.{ℕ}
 use lib.Dec.{eqb, ltb, leb}
 use Rattle.base.specs.Outcome.{Outcome, accepted, refused, refuse}
 use Rattle.blocks.specs.BlockSizes.{num8x8Wide, num8x8High}
+use Rattle.blocks.specs.ModeInfo.{badBlock, sbSize, isIntra}
 use Rattle.geometry.specs.Frame.{badSubsampling, badFrameSize, badStart}
 use Rattle.geometry.specs.declared.Pass.{Pass}
 use Rattle.geometry.specs.declared.Pass.the-variants.{Vertical, Horizontal}
 use Rattle.geometry.specs.declared.Superblock.{Superblock}
-use Rattle.edges.specs.SuperblockFilter.{sub, edgeCount, edgeLen, lumaX, lumaY, loopCell, sbSize, isIntra, isBlockEdge, isTxEdge, is32Edge, onScreen, applyFilter}
+use Rattle.edges.specs.SuperblockFilter.{sub, edgeCount, edgeLen, lumaX, lumaY, loopCell, isBlockEdge, isTxEdge, is32Edge, onScreen, applyFilter}
 use Rattle.edges.specs.FilterSize.{filterSize}
 use Rattle.edges.specs.declared.superblock_filter.SuperblockFilterMi.{SuperblockFilterMi}
 use Rattle.edges.specs.declared.superblock_filter.SuperblockFilterEdge.{SuperblockFilterEdge}
@@ -42,15 +43,6 @@ edgeFacts s pass edge i mi =
       size = filterSize s pass (mi .«tx_sz») (is32Edge edge) x y;
     }
 
--- 8, with place 0: a block size above 12, a transform above 3 or a skip above 1
-unfoldable pub badMi : SuperblockFilterMi → Bool
-badMi mi = ltb 12 (mi .«mi_size») || ltb 3 (mi .«tx_sz») || ltb 1 (mi .skip)
-
--- what is known of a cell that is not bad
-pub record Sound (mi : SuperblockFilterMi) : Type 0 where
-  pub size : mi .«mi_size» ≤ 12
-  pub tx : mi .«tx_sz» ≤ 3
-
 -- 16
 unfoldable pub offGrid : Superblock → Pass → (edge i : ℕ) → Bool
 offGrid s pass edge i = leb (edgeCount s pass) edge || leb (edgeLen s pass) i
@@ -70,7 +62,7 @@ superblockFilterEdge pass row col edge i subX subY miCols miRows mi =
     refuse (badSubsampling subX subY) 3 0
     (refuse (badFrameSize miCols miRows) 4 0
     (refuse (badStart row miRows) 5 0
-    (refuse (badMi mi) 8 0
+    (refuse (badBlock (mi .«mi_size») (mi .«tx_sz») (mi .skip)) 8 0
     (refuse (ltb 1 pass) 9 0
     (refuse (badStart col miCols) 10 0
     (refuse (offGrid s (passOf pass) edge i) 16 0

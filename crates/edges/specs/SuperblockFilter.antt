@@ -1,11 +1,10 @@
--- 8.8.2: one position of a superblock, plane and pass, steps 1 to 14. A superblock has the subsampling that holds in its plane.
+-- 8.8.2: one position of a superblock, plane and pass, steps 1 to 14; steps 7 and 9 are in ModeInfo of the crate blocks. A superblock
+-- has the subsampling that holds in its plane.
 -- Assumes nothing.
-use mathlib.Core.Bool.{Bool, false, cond, not, _&&_, _||_}
-use Prim.Native.Nat.{ℕ, _+_, _*_, _/_, _%_, _^_, _≤_, _<_, max}
+use mathlib.Core.Bool.{Bool, false, not, _&&_, _||_}
+use Prim.Native.Nat.{ℕ, _+_, _*_, _/_, _%_, _^_, _≤_, _<_}
 use mathlib.Core.Path.{_≡_}
 use lib.Dec.{eqb, leb}
-use lib.IntN.{ℤ, pos}
-use lib.Signed.{ltZ}
 use Rattle.geometry.specs.Coordinates.{shl, shr}
 use Rattle.geometry.specs.declared.Pass.{Pass}
 use Rattle.geometry.specs.declared.Pass.the-variants.{Vertical, Horizontal}
@@ -53,14 +52,6 @@ lumaY s Horizontal edge i = s .row * 8 + edge * shl 4 (s .suby)
 -- steps 2 and 3: loopCol, of x and subX, and loopRow, of y and subY: the cell that the position reads
 unfoldable pub loopCell : (sub : Bool) (at : ℕ) → ℕ
 loopCell sub at = shl (shr (at / 8) sub) sub
-
--- step 7: sbSize, where BLOCK_16X16 is 6
-unfoldable pub sbSize : (sub : Bool) (miSize : ℕ) → ℕ
-sbSize sub miSize = cond sub (max 6 miSize) miSize
-
--- step 9: isIntra, where INTRA_FRAME is 0
-unfoldable pub isIntra : (refFrame : ℤ) → Bool
-isIntra refFrame = not (ltZ (pos 0) refFrame)
 
 -- step 10: isBlockEdge, for the width and height of sbSize in 8-sample blocks
 unfoldable pub isBlockEdge : Pass → (x y wide high : ℕ) → Bool

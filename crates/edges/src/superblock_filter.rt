@@ -1,13 +1,16 @@
 // One position of a superblock, plane and pass (8.8.2).
 ghost use mathlib.Core.Path.{_≡_};
 ghost use Prim.Native.Nat.{_*_, _^_, _≤_, _<_};
+ghost use Rattle.blocks.specs.ModeInfoLaws.{Block};
 ghost use Rattle.geometry.specs.Coordinates.{shl, shr};
-ghost use Rattle.edges.specs.SuperblockFilter.{Placed, edgeCount, edgeLen, lumaX, lumaY, loopCell, sbSize, isIntra, lastColumn, isTxEdge, is32Edge, atBorder, onScreen, applyFilter};
-ghost use Rattle.edges.specs.Edge.{blockEdge, edgeFacts, Sound, badMi, passOf, superblockFilterEdge, outcomeOf};
+ghost use Rattle.edges.specs.SuperblockFilter.{Placed, edgeCount, edgeLen, lumaX, lumaY, loopCell, lastColumn, isTxEdge, is32Edge, atBorder, onScreen, applyFilter};
+ghost use Rattle.edges.specs.Edge.{blockEdge, edgeFacts, passOf, superblockFilterEdge, outcomeOf};
 use crate::filter_size::filter_size;
+use blocks::mode_info::bad_block;
+use blocks::mode_info::is_intra;
+use blocks::mode_info::sb_size;
 use blocks::partition::num_8x8_high_unchecked;
 use blocks::partition::num_8x8_wide_unchecked;
-use blocks::residual::BLOCK_16X16;
 use geometry::Luma;
 use geometry::Pass;
 use geometry::Superblock;
@@ -87,23 +90,6 @@ fn loop_cell(at: Luma, sub: bool) -> usize
     ensures { λ r. ⌜ r ≡ loopCell sub (at .0) ⌝ }
 {
     doubled(halved(at.0 / 8, sub), sub)
-}
-
-fn sb_size(sub: bool, mi_size: u8) -> u8
-    requires { ⌜ «mi_size» ≤ 12 ⌝ }
-    ensures { λ r. ⌜ (r ≡ sbSize sub «mi_size») × (r ≤ 12) ⌝ }
-{
-    if sub & (mi_size < BLOCK_16X16) {
-        BLOCK_16X16
-    } else {
-        mi_size
-    }
-}
-
-fn is_intra(ref_frame: i32) -> bool
-    ensures { λ r. ⌜ r ≡ isIntra «ref_frame» ⌝ }
-{
-    !(0 < ref_frame)
 }
 
 fn is_block_edge(s: Superblock, pass: Pass, x: Luma, y: Luma, mi_size: u8) -> bool
@@ -191,7 +177,7 @@ pub fn superblock_filter_edge_unchecked(
     i: usize,
     mi: SuperblockFilterMi,
 ) -> SuperblockFilterEdge
-    requires { ⌜ Placed s × (edge < 16) × (i < 64) × Sound mi ⌝ }
+    requires { ⌜ Placed s × (edge < 16) × (i < 64) × Block (mi .«mi_size») (mi .«tx_sz») (mi .skip) ⌝ }
     ensures { λ r. ⌜ r ≡ edgeFacts s pass edge i mi ⌝ }
 {
     let x = luma_x(s, pass, edge, i);
@@ -234,12 +220,6 @@ fn edge_len(s: Superblock, pass: Pass) -> usize
     }
 }
 
-fn bad_mi(mi: SuperblockFilterMi) -> bool
-    ensures { λ r. ⌜ r ≡ badMi mi ⌝ }
-{
-    (12 < mi.mi_size) | (3 < mi.tx_sz) | (1 < mi.skip)
-}
-
 fn pass_of(pass: u8) -> Pass
     ensures { λ r. ⌜ r ≡ passOf pass ⌝ }
 {
@@ -274,7 +254,7 @@ pub fn superblock_filter_edge(
     if bad_start(row, mi_rows) {
         return EdgeAnswer::Row;
     }
-    if bad_mi(mi) {
+    if bad_block(mi.mi_size, mi.tx_sz, mi.skip) {
         return EdgeAnswer::Block;
     }
     if 1 < pass {

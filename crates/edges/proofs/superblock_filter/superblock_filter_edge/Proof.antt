@@ -6,9 +6,11 @@ use native.Mathlib.Omega.{arith}
 use lib.Dec.{leb}
 use Rattle.base.specs.Outcome.{accepted, refuse}
 use Rattle.base.specs.Tests.{neither}
+use Rattle.blocks.specs.ModeInfo.{badBlock}
+use Rattle.blocks.specs.ModeInfoLaws.{block}
 use Rattle.geometry.specs.Frame.{badSubsampling, badFrameSize, badStart}
-use Rattle.edges.specs.Edge.{edgeFacts, badMi, offGrid, passOf, superblockOf, superblockFilterEdge}
-use Rattle.edges.specs.EdgeLaws.{placed, sound}
+use Rattle.edges.specs.Edge.{edgeFacts, offGrid, passOf, superblockOf, superblockFilterEdge}
+use Rattle.edges.specs.EdgeLaws.{placed}
 use Rattle.edges.proofs.superblock_filter.superblock_filter_edge.Statement.{statement}
 use Rattle.edges.proofs.superblock_filter.superblock_filter_edge.Tie as tie
 
@@ -22,8 +24,8 @@ frame c = sym (c .before .bad-frame-size .ensures) ∙ c .if2 .left
 row : (c : tie.Else3) → let a = c .before .before .before .before .before .before .args in badStart (a .row) (a .mi-rows) ≡ false
 row c = sym (c .before .bad-start .ensures) ∙ c .if3 .left
 
-cell : (c : tie.Else4) → badMi (c .before .before .before .before .before .before .before .before .args .mi) ≡ false
-cell c = sym (c .before .bad-mi .ensures) ∙ c .if4 .left
+cell : (c : tie.Else4) → let mi = c .before .before .before .before .before .before .before .before .args .mi in badBlock (mi .«mi_size») (mi .«tx_sz») (mi .skip) ≡ false
+cell c = sym (c .before .bad-block .ensures) ∙ c .if4 .left
 
 column : (c : tie.Else6) → let a = c .before .before .before .before .before .before .before .before .before .before .before .args in badStart (a .col) (a .mi-cols) ≡ false
 column c = sym (c .before .bad-start2 .ensures) ∙ c .if6 .left
@@ -69,7 +71,7 @@ unfolding superblockFilterEdge
 returns-4 c =
     let at-if3 = c .before .before in
     let at-if2 = at-if3 .before .before in
-    rw (flags (at-if2 .before .before), frame at-if2, row at-if3, sym (c .before .bad-mi .ensures) ∙ c .if4 .taken)
+    rw (flags (at-if2 .before .before), frame at-if2, row at-if3, sym (c .before .bad-block .ensures) ∙ c .if4 .taken)
 
 returns-5 : tie.Need-returns-5
 unfolding superblockFilterEdge
@@ -99,7 +101,7 @@ superblock-filter-edge-unchecked-requires c κs =
       placed _ (frame (at-if3 .before .before)) (row at-if3) (column at-if6),
       omega (arith, leb-false (count .result) (a .edge) (inside .0), count .ensures .1),
       omega (arith, leb-false (len .result) (a .i) (inside .1), len .ensures .1),
-      sound (a .mi) (cell at-if4),
+      block _ _ _ (cell at-if4),
     )
 
 returns-8 : tie.Need-returns-8
