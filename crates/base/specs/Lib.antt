@@ -1,6 +1,7 @@
 pub mod Notation
 pub mod NotationLaws
 pub mod Outcome
+pub mod OutcomeLaws
 pub mod Entries
 pub mod Filled
 pub mod Copied

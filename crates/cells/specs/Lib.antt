@@ -2,3 +2,4 @@ pub mod Cell
 pub mod CellLaws
 pub mod Row
 pub mod RowLaws
+pub mod RowStandard

@@ -1,33 +1,27 @@
--- Laws of the row: what its tests leave, its cases, and what its words say.
+-- Laws of the row: what its tests leave, and its cases.
 -- Assumes nothing.
-use mathlib.Core.Path.{_≡_, refl, ap, _∙_}
-use mathlib.Core.Bool.{Bool, true, false, not, _&&_, _||_}
+use mathlib.Core.Path.{_≡_}
+use mathlib.Core.Bool.{Bool, true, false, not, _||_}
 use mathlib.Core.List.{List}
-use Prim.Native.Nat.{ℕ, _≤_, _<_, _^_}
-use native.Mathlib.Nat.{zero-add}
+use Prim.Native.Nat.{ℕ, _≤_, _<_}
 use native.Mathlib.Omega.{arith}
 use lib.Dec.{eqb, ltb}
-use lib.IntN.{ℤ, pos}
+use lib.IntN.{ℤ}
 use lib.ListN.{length, getD}
 use borrow.Author.Tests.{lt-ltb, le-ltb, ltb-false}
 use Rattle.base.specs.Depth.{supported}
-use Rattle.base.specs.Filled.{filled, filled-at}
+use Rattle.base.specs.Filled.{filled}
 use Rattle.base.specs.First.{first, found, found-false}
 use Rattle.base.specs.Outcome.{Outcome, accepted, refused}
 use Rattle.base.specs.Tests.{neither}
-use Rattle.blocks.specs.BlockSizes.{miWidthLog2, miHeightLog2, num8x8Wide, num8x8High, uvTxSize}
 use Rattle.blocks.specs.BlockSizesLaws.{width-small, height-small, uv-tx-small}
-use Rattle.blocks.specs.ModeInfo.{sbSize, isIntra}
-use Rattle.blocks.specs.ModeInfoLaws.{Block, block, sb-size-small}
+use Rattle.blocks.specs.ModeInfo.{sbSize}
+use Rattle.blocks.specs.ModeInfoLaws.{block, sb-size-small}
 use Rattle.geometry.specs.Frame.{badSubsampling, badFrameSize, badStart, cellsFrom}
-use Rattle.levels.specs.Levels.{levelAt, lookupOf}
-use Rattle.levels.specs.LevelTableLaws.{lookup-small, lookup-entry}
+use Rattle.levels.specs.LevelTableLaws.{lookup-small}
 use Rattle.strength.specs.Strength.{modeType}
-use Rattle.strength.specs.StrengthLaws.{mode-type-small}
-use Rattle.cells.specs.Cell.{packed, cellOf, widthLog2, heightLog2, txOf, Fields}
-use Rattle.cells.specs.CellLaws.{fields-back}
-use Rattle.cells.specs.Row.{cellFrom, ModeInfo, cellAt, wordAt, badLevel, tooShort, badAt, row}
-use Rattle.cells.specs.declared.LfCell.{LfCell}
+use Rattle.cells.specs.Cell.{Fields}
+use Rattle.cells.specs.Row.{cellFrom, ModeInfo, wordAt, badLevel, tooShort, badAt, row}
 
 -- ---- what the tests leave
 
