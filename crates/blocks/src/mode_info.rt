@@ -15,7 +15,11 @@ pub fn sb_size(sub: bool, mi_size: u8) -> u8
     ensures { λ r. ⌜ r ≡ sbSize sub «mi_size» ⌝ }
 {
     if sub {
-        if mi_size < BLOCK_16X16 { BLOCK_16X16 } else { mi_size }
+        if mi_size < BLOCK_16X16 {
+            BLOCK_16X16
+        } else {
+            mi_size
+        }
     } else {
         mi_size
     }

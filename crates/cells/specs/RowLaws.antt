@@ -11,13 +11,15 @@ use lib.ListN.{length, getD}
 use borrow.Author.Tests.{lt-ltb, le-ltb, ltb-false}
 use Rattle.base.specs.Depth.{supported}
 use Rattle.base.specs.Filled.{filled}
-use Rattle.base.specs.First.{first, found, found-false}
-use Rattle.base.specs.Outcome.{Outcome, accepted, refused}
+use Rattle.base.specs.First.{first, found, found-false, first-small}
+use Rattle.base.specs.Outcome.{Outcome, accepted, refused, returned}
+use Rattle.base.specs.OutcomeLaws.{refuse-place}
 use Rattle.base.specs.Tests.{neither}
 use Rattle.blocks.specs.BlockSizesLaws.{width-small, height-small, uv-tx-small}
 use Rattle.blocks.specs.ModeInfo.{sbSize}
 use Rattle.blocks.specs.ModeInfoLaws.{block, sb-size-small}
 use Rattle.geometry.specs.Frame.{badSubsampling, badFrameSize, badStart, cellsFrom}
+use Rattle.geometry.specs.FrameLaws.{sized, cells-small}
 use Rattle.levels.specs.LevelTableLaws.{lookup-small}
 use Rattle.strength.specs.Strength.{modeType}
 use Rattle.cells.specs.Cell.{Fields}
@@ -124,3 +126,18 @@ module _ (m : ModeInfo) (levels : List ℕ) (sharpness depth subX subY miCols mi
                 pub row-filled : found (badAt m) n ≡ false → answer ≡ accepted (filled (wordAt m levels (eqb subX 1) (eqb subY 1)) 0 n cells)
                 unfolding row
                 row-filled t = rw (le-ltb 7 sharpness t1, t2, t3, t4, t5, t6, t7, t)
+
+  -- a place is an entry of the level table, a cell of the row, or 0
+  pub row-place : returned answer .place ≤ 65536
+  unfolding row
+  row-place =
+      refuse-place 65536 (ltb 7 sharpness) 1 0 _ (omega arith) (λ t1.
+      refuse-place 65536 (not (supported depth)) 2 0 _ (omega arith) (λ t2.
+      refuse-place 65536 (badSubsampling subX subY) 3 0 _ (omega arith) (λ t3.
+      refuse-place 65536 (badFrameSize miCols miRows) 4 0 _ (omega arith) (λ t4.
+      refuse-place 65536 (badStart base miRows) 5 0 _ (omega arith) (λ t5.
+      refuse-place 65536 (found (badLevel levels) 64) 6 (first (badLevel levels) 64) _ (omega (arith, first-small (badLevel levels) 0 64)) (λ t6.
+      refuse-place 65536 (tooShort m cells n) 7 0 _ (omega arith) (λ t7.
+      refuse-place 65536 (found (badAt m) n) 8 (first (badAt m) n) _
+      (omega (arith, first-small (badAt m) 0 n, cells-small base miCols miRows (sized miCols miRows t4 .cols)))
+      (λ t8. omega arith))))))))

@@ -7,6 +7,7 @@ pub mod row;
 
 // What the pass reads of a cell: logarithms of width and height in 8-sample blocks, for subsampling 0 and 1; transform and chroma
 // transform; skip set and not intra; whether there is a level, and the level, 0 where there is none.
+#[repr(C)]
 pub struct LfCell {
     pub width0: u8,
     pub width1: u8,

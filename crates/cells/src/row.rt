@@ -73,7 +73,12 @@ fn cell_unchecked(
     ensures { λ r. ⌜ r ≡ cellFrom (now (levels .entry)) subx suby «mi_size» «tx_size» skip «ref_frame» «y_mode» «segment_id» ⌝ }
 {
     let raised = sb_size(true, mi_size);
-    let lvl = find_level(levels, segment_id as usize, ref_frame, mode_to_mode_type(y_mode));
+    let lvl = find_level(
+        levels,
+        segment_id as usize,
+        ref_frame,
+        mode_to_mode_type(y_mode),
+    );
     LfCell {
         width0: mi_width_log2_unchecked(mi_size),
         width1: mi_width_log2_unchecked(raised),

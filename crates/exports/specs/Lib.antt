@@ -1,3 +1,4 @@
 pub mod Border
+pub mod EdgeEntry
 pub mod LevelEntry
 pub mod StrengthEntry

@@ -1,0 +1,73 @@
+use borrow.Author.Needs.{needs}
+use mathlib.Core.Path.{_≡_, sym, ap, _∙_}
+use Prim.Native.Nat.{_≤_}
+use Rattle.cells.specs.Row.{returnedOf}
+use Rattle.cells.specs.declared.row.RowAnswer.{RowAnswer}
+use Rattle.exports.proofs.row_entry.refusal_of.Statement.{statement}
+use Rattle.exports.proofs.row_entry.refusal_of.Tie as tie
+
+-- what the answer was found to be
+found : {a b : RowAnswer} → a ≡ b → returnedOf b ≡ returnedOf a
+found e = sym (ap returnedOf e)
+
+small : {a b : RowAnswer} → a ≡ b → returnedOf a .place ≤ 65536 → returnedOf b .place ≤ 65536
+small e h = rw e at h
+
+returns : tie.Need-returns
+returns c = c .refusal .ensures ∙ found (c .before .enum-told .given .1)
+
+returns-2 : tie.Need-returns-2
+returns-2 c = c .refusal2 .ensures ∙ found (c .before .enum-told2 .given .1)
+
+returns-3 : tie.Need-returns-3
+returns-3 c = c .refusal3 .ensures ∙ found (c .before .enum-told3 .given .1)
+
+returns-4 : tie.Need-returns-4
+returns-4 c = c .refusal4 .ensures ∙ found (c .before .enum-told4 .given .1)
+
+returns-5 : tie.Need-returns-5
+returns-5 c = c .refusal5 .ensures ∙ found (c .before .enum-told5 .given .1)
+
+returns-6 : tie.Need-returns-6
+returns-6 c = c .refusal6 .ensures ∙ found (c .before .enum-told6 .given .1)
+
+returns-7 : tie.Need-returns-7
+returns-7 c = c .refusal7 .ensures ∙ found (c .before .before .answer .given .1)
+
+returns-8 : tie.Need-returns-8
+returns-8 c = c .refusal8 .ensures ∙ found (c .before .enum-told7 .given .1)
+
+returns-9 : tie.Need-returns-9
+returns-9 c = c .refusal9 .ensures ∙ found (c .before .before .answer2 .given .1)
+
+pub refusal-of-spec : {M : Type 1} → statement M
+refusal-of-spec =
+    tie.close
+    (tie.spec
+    (search needs)
+    (search needs)
+    (search needs)
+    (search needs)
+    (search needs)
+    (search needs)
+    (search needs)
+    (search needs)
+    (search needs)
+    (search needs)
+    (search needs)
+    (search needs)
+    (search needs)
+    (λ c κs. small (c .before .answer .given .1) (c .before .before .before .pre))
+    (search needs)
+    (search needs)
+    (search needs)
+    (λ c κs. small (c .before .answer2 .given .1) (c .before .before .before .pre))
+    returns
+    returns-2
+    returns-3
+    returns-4
+    returns-5
+    returns-6
+    returns-7
+    returns-8
+    returns-9)
