@@ -3,69 +3,23 @@ ghost use mathlib.Core.Path.{_≡_};
 ghost use Prim.Native.Nat.{_≤_};
 ghost use Rattle.blocks.specs.BlockSizes.{maxTxSize, ssSize, uvTxSize};
 
-pub const BLOCK_8X8: u8 = 3;
+const BLOCK_8X8: u8 = 3;
 
-pub const BLOCK_16X16: u8 = 6;
+pub(crate) const BLOCK_16X16: u8 = 6;
 
-pub const BLOCK_INVALID: u8 = 14;
+const BLOCK_INVALID: u8 = 14;
 
 const MAX_TXSIZE_LOOKUP: [u8; 13] = [0, 0, 0, 1, 1, 1, 2, 2, 2, 3, 3, 3, 3];
 
-// ss_size_lookup[ size ][ subX ][ subY ], flat: at size times 4 plus subX times 2 plus subY.
-const SS_SIZE_LOOKUP: [u8; 52] = [
-    0,
-    14,
-    14,
-    14, // 4x4
-    1,
-    0,
-    14,
-    14, // 4x8
-    2,
-    14,
-    0,
-    14, // 8x4
-    3,
-    2,
-    1,
-    0, // 8x8
-    4,
-    3,
-    14,
-    1, // 8x16
-    5,
-    14,
-    3,
-    2, // 16x8
-    6,
-    5,
-    4,
-    3, // 16x16
-    7,
-    6,
-    14,
-    4, // 16x32
-    8,
-    14,
-    6,
-    5, // 32x16
-    9,
-    8,
-    7,
-    6, // 32x32
-    10,
-    9,
-    14,
-    7, // 32x64
-    11,
-    14,
-    9,
-    8, // 64x32
-    12,
-    11,
-    10,
-    9, // 64x64
-];
+// ss_size_lookup, a list for each pair of subX and subY.
+
+const SS_SIZE_LOOKUP_0_0: [u8; 13] = [0, 1, 2, 3, 4, 5, 6, 7, 8, 9, 10, 11, 12];
+
+const SS_SIZE_LOOKUP_0_1: [u8; 13] = [14, 0, 14, 2, 3, 14, 5, 6, 14, 8, 9, 14, 11];
+
+const SS_SIZE_LOOKUP_1_0: [u8; 13] = [14, 14, 0, 1, 14, 3, 4, 14, 6, 7, 14, 9, 10];
+
+const SS_SIZE_LOOKUP_1_1: [u8; 13] = [14, 14, 14, 0, 1, 2, 3, 4, 5, 6, 7, 8, 9];
 
 fn max_tx_size_unchecked(size: u8) -> u8
     requires { ⌜ size ≤ 12 ⌝ }
@@ -79,23 +33,23 @@ fn ss_size_unchecked(size: u8, subx: bool, suby: bool) -> u8
     requires { ⌜ size ≤ 12 ⌝ }
     ensures { λ r. ⌜ r ≡ ssSize size subx suby ⌝ }
 {
-    let at = size as usize * 4;
+    let at = size as usize;
     if subx {
         if suby {
-            SS_SIZE_LOOKUP[at + 3]
+            SS_SIZE_LOOKUP_1_1[at]
         } else {
-            SS_SIZE_LOOKUP[at + 2]
+            SS_SIZE_LOOKUP_1_0[at]
         }
     } else {
         if suby {
-            SS_SIZE_LOOKUP[at + 1]
+            SS_SIZE_LOOKUP_0_1[at]
         } else {
-            SS_SIZE_LOOKUP[at]
+            SS_SIZE_LOOKUP_0_0[at]
         }
     }
 }
 
-// The transform of a block in planes 1 and 2. The size is tested by the caller.
+// The transform of a block in planes 1 and 2, of a size that was tested.
 pub fn get_uv_tx_size_unchecked(tx_size: u8, mi_size: u8, subx: bool, suby: bool) -> u8
     requires { ⌜ «mi_size» ≤ 12 ⌝ }
     ensures { λ r. ⌜ r ≡ uvTxSize «tx_size» «mi_size» subx suby ⌝ }
