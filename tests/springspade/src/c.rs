@@ -1,6 +1,6 @@
 //! The C functions of libexports.a.
 
-use crate::Returned;
+use crate::{Cell, Returned};
 
 #[repr(C)]
 pub struct Strength {
@@ -9,6 +9,22 @@ pub struct Strength {
     pub limit: u8,
     pub blimit: u8,
     pub thresh: u8,
+}
+
+#[repr(C)]
+pub struct Edge {
+    pub number: u32,
+    pub place: u32,
+    pub x: u32,
+    pub y: u32,
+    pub loop_col: u32,
+    pub loop_row: u32,
+    pub is_block_edge: bool,
+    pub is_tx_edge: bool,
+    pub is_32_edge: bool,
+    pub on_screen: bool,
+    pub apply_filter: bool,
+    pub size: u8,
 }
 
 unsafe extern "C" {
@@ -39,4 +55,44 @@ unsafe extern "C" {
         blimit: u8,
         thresh: u8,
     ) -> Returned;
+    pub fn springspade_row(
+        mi_sizes: *const u8,
+        mi_sizes_len: usize,
+        tx_sizes: *const u8,
+        tx_sizes_len: usize,
+        skips: *const u8,
+        skips_len: usize,
+        ref_frames: *const i32,
+        ref_frames_len: usize,
+        y_modes: *const u8,
+        y_modes_len: usize,
+        segment_ids: *const u8,
+        segment_ids_len: usize,
+        levels: &[u8; 64],
+        sharpness: u8,
+        depth: u8,
+        sub_x: u8,
+        sub_y: u8,
+        mi_cols: usize,
+        mi_rows: usize,
+        base: usize,
+        cells: *mut u32,
+        cells_len: usize,
+    ) -> Returned;
+    pub safe fn springspade_cell(word: u32) -> Cell;
+    pub safe fn springspade_edge(
+        pass: u8,
+        row: usize,
+        col: usize,
+        edge: usize,
+        i: usize,
+        sub_x: u8,
+        sub_y: u8,
+        mi_cols: usize,
+        mi_rows: usize,
+        mi_size: u8,
+        tx_sz: u8,
+        skip: u8,
+        ref_frame: i32,
+    ) -> Edge;
 }

@@ -1,12 +1,18 @@
 //! Safe Rust over the C functions of libexports.a.
 
 mod c;
+mod cell;
+mod edge;
 mod levels;
 mod line;
+mod row;
 mod strength;
 
+pub use cell::{Cell, cell};
+pub use edge::{EdgeFacts, Position, edge, edge_returned};
 pub use levels::{Lists, LoopFilter, Segmentation, level_table, level_table_into};
 pub use line::line;
+pub use row::{Frame, ModeInfo, row, row_returned};
 pub use strength::{Strength, mode_type, strength, strength_returned};
 
 /// What a call returns: number and place of a refusal, both 0 where it accepts.
