@@ -1,9 +1,12 @@
 //! What the differential tests, the benchmark and the vector maker share.
 
 pub mod cases;
+pub mod cells;
+pub mod edges;
 pub mod libvpx;
 pub mod lines;
 pub mod random;
+pub mod rows;
 #[cfg(oracle)]
 pub mod rust;
 pub mod vectors;

@@ -1,0 +1,156 @@
+//! Arguments of a row: mode info of its cells, random ones among them.
+
+use crate::random::Random;
+use springspade::{Frame, ModeInfo, Returned, row_returned};
+
+/// The mode info of one cell.
+#[derive(Debug, Clone, Copy, PartialEq, Eq)]
+pub struct Block {
+    pub mi_size: u8,
+    pub tx_size: u8,
+    pub skip: u8,
+    pub ref_frame: i32,
+    pub y_mode: u8,
+    pub segment_id: u8,
+}
+
+/// Mode info as lists.
+#[derive(Debug, Clone, PartialEq, Eq, Default)]
+pub struct Blocks {
+    pub mi_sizes: Vec<u8>,
+    pub tx_sizes: Vec<u8>,
+    pub skips: Vec<u8>,
+    pub ref_frames: Vec<i32>,
+    pub y_modes: Vec<u8>,
+    pub segment_ids: Vec<u8>,
+}
+
+#[derive(Debug, Clone, PartialEq, Eq)]
+pub struct Row {
+    pub frame: Frame,
+    pub base: usize,
+    /// At segment * 8 + reference * 2 + mode type.
+    pub levels: [u8; 64],
+    pub blocks: Blocks,
+}
+
+/// References, modes and segments on both sides of their limits.
+pub const REFERENCES: [i32; 8] = [i32::MIN, -1, 0, 1, 2, 3, 4, i32::MAX];
+pub const MODES: [u8; 8] = [0, 9, 10, 11, 12, 13, 14, 255];
+pub const SEGMENTS: [u8; 5] = [0, 3, 7, 8, 255];
+
+impl Block {
+    /// A random one that is not refused.
+    pub fn random(random: &mut Random) -> Block {
+        Block {
+            mi_size: random.between(0, 12) as u8,
+            tx_size: random.between(0, 3) as u8,
+            skip: random.flag().into(),
+            ref_frame: reference(random),
+            y_mode: random.one_of(&MODES),
+            segment_id: match random.between(0, 7) {
+                0 => random.number() as u8,
+                _ => random.between(0, 7) as u8,
+            },
+        }
+    }
+}
+
+/// Any reference; half of them have a level.
+pub fn reference(random: &mut Random) -> i32 {
+    match random.between(0, 7) {
+        0 => random.number() as i32,
+        1..4 => random.one_of(&REFERENCES),
+        _ => random.between(0, 3) as i32,
+    }
+}
+
+/// `mi_cols` or `mi_rows`: the least, the greatest, and what ends inside one of three superblocks.
+pub fn mi_count(random: &mut Random) -> usize {
+    match random.between(0, 63) {
+        0 => random.one_of(&[8184, 8185, 8191, 8192]),
+        1..8 => random.one_of(&[1, 2, 7, 8, 9, 16]),
+        _ => random.between(1, 24) as usize,
+    }
+}
+
+/// The first row or column of a superblock, the last one often.
+pub fn superblock(random: &mut Random, mi: usize) -> usize {
+    let last = (mi as i64 - 1) / 8;
+    let any = random.between(0, last);
+    (8 * random.one_of(&[any, last])) as usize
+}
+
+impl FromIterator<Block> for Blocks {
+    fn from_iter<I: IntoIterator<Item = Block>>(blocks: I) -> Blocks {
+        let mut lists = Blocks::default();
+        lists.extend(blocks);
+        lists
+    }
+}
+
+impl Extend<Block> for Blocks {
+    fn extend<I: IntoIterator<Item = Block>>(&mut self, blocks: I) {
+        for block in blocks {
+            self.mi_sizes.push(block.mi_size);
+            self.tx_sizes.push(block.tx_size);
+            self.skips.push(block.skip);
+            self.ref_frames.push(block.ref_frame);
+            self.y_modes.push(block.y_mode);
+            self.segment_ids.push(block.segment_id);
+        }
+    }
+}
+
+impl Blocks {
+    pub fn at(&self, k: usize) -> Block {
+        Block {
+            mi_size: self.mi_sizes[k],
+            tx_size: self.tx_sizes[k],
+            skip: self.skips[k],
+            ref_frame: self.ref_frames[k],
+            y_mode: self.y_modes[k],
+            segment_id: self.segment_ids[k],
+        }
+    }
+}
+
+impl Row {
+    /// A random row that is not refused, its lists as long as its cells.
+    pub fn random(random: &mut Random) -> Row {
+        let frame = Frame {
+            sharpness: random.between(0, 7) as u8,
+            depth: random.one_of(&[8, 10, 12]),
+            sub_x: random.flag().into(),
+            sub_y: random.flag().into(),
+            mi_cols: mi_count(random),
+            mi_rows: mi_count(random),
+        };
+        let base = superblock(random, frame.mi_rows);
+        let levels = [(); 64].map(|()| random.between(0, 63) as u8);
+        let mut row = Row { frame, base, levels, blocks: Blocks::default() };
+        row.blocks.extend((0..row.cells()).map(|_| Block::random(random)));
+        row
+    }
+
+    /// How many cells the row has.
+    pub fn cells(&self) -> usize {
+        self.frame.mi_rows.saturating_sub(self.base).min(8) * self.frame.mi_cols
+    }
+
+    pub fn info(&self) -> ModeInfo<'_> {
+        ModeInfo {
+            mi_sizes: &self.blocks.mi_sizes,
+            tx_sizes: &self.blocks.tx_sizes,
+            skips: &self.blocks.skips,
+            ref_frames: &self.blocks.ref_frames,
+            y_modes: &self.blocks.y_modes,
+            segment_ids: &self.blocks.segment_ids,
+        }
+    }
+
+    /// Ours, into these words.
+    pub fn ours(&self, words: &mut [u32]) -> Returned {
+        row_returned(&self.info(), &self.levels, &self.frame, self.base, words)
+    }
+}
