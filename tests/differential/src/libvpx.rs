@@ -1,20 +1,13 @@
 //! What libvpx computes: strength.tsv, the lines of lines.bin.xz and the frames of quick.tar.xz.
 
-use crate::cases::{Case, LEVEL_40, SEG_LVL_ALT_L};
+mod frame;
+
 use crate::lines::Line;
+pub use frame::{Cell, Frame, OPEN};
 use springspade::Strength;
 use std::path::{Path, PathBuf};
 use std::process::Command;
 use std::{array, env, fs};
-
-/// An entry that is not compared.
-pub const OPEN: u8 = 255;
-
-pub struct Frame {
-    pub name: String,
-    pub case: Case,
-    pub levels: [u8; 64],
-}
 
 pub struct Filtered {
     pub line: Line,
@@ -71,40 +64,7 @@ pub fn frames(folder: &Path) -> Vec<Frame> {
     assert!(tar.unwrap().success());
     let mut files: Vec<PathBuf> = fs::read_dir(&out).unwrap().map(|f| f.unwrap().path()).collect();
     files.sort();
-    let frames = files.iter().filter_map(|file| frame(file)).collect();
+    let frames = files.iter().filter_map(|file| Frame::read(file)).collect();
     fs::remove_dir_all(&out).unwrap();
     frames
-}
-
-fn frame(file: &Path) -> Option<Frame> {
-    let name = file.file_name().unwrap().to_string_lossy().into_owned();
-    let bytes = fs::read(file).unwrap();
-    assert_eq!(&bytes[..8], b"VP9LFD02", "{name}");
-    let field = |k: usize| i32::from_le_bytes(bytes[8 + 4 * k..][..4].try_into().unwrap());
-    let flag = |k: usize| field(k) != 0;
-    if field(8) == 0 {
-        return None;
-    }
-    let mut case = Case {
-        level: field(8).try_into().unwrap(),
-        delta_enabled: flag(10),
-        delta_update: flag(11),
-        deltas: array::from_fn(|i| field(12 + i).try_into().unwrap()),
-        present: [true; 6],
-        seg_enabled: flag(18),
-        abs_or_delta_update: flag(19),
-        ..LEVEL_40
-    };
-    for segment in 0..8 {
-        case.feature_enabled[segment][SEG_LVL_ALT_L] = flag(20 + segment);
-        case.feature_data[segment][SEG_LVL_ALT_L] = field(28 + segment).try_into().unwrap();
-    }
-    let mut levels: [u8; 64] = bytes[200..264].try_into().unwrap();
-    if case.delta_enabled {
-        // libvpx never writes (segment, intra, mode type 1) then.
-        for segment in 0..8 {
-            levels[segment * 8 + 1] = OPEN;
-        }
-    }
-    Some(Frame { name, case, levels })
 }

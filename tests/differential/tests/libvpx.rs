@@ -1,7 +1,7 @@
 //! Ours against what libvpx computes.
 
 use differential::{libvpx, say};
-use springspade::{Strength, level_table, line, strength};
+use springspade::{Strength, cell, edge, level_table, line, row, strength};
 
 #[test]
 fn strengths_equal() {
@@ -50,4 +50,50 @@ fn lines_equal() {
         arms[case.arm() as usize] += 1;
     }
     say(&format!("{} lines equal libvpx's; none, narrow, six, fourteen: {arms:?}", lines.len()));
+}
+
+#[test]
+fn cells_equal() {
+    let Some(folder) = libvpx::folder() else {
+        return say("passed over: libvpx's vectors are not at hand");
+    };
+    let mut cells = 0;
+    for libvpx in &libvpx::frames(&folder) {
+        let (frame, name) = (&libvpx.frame, &libvpx.name);
+        for base in (0..frame.mi_rows).step_by(8) {
+            let part = libvpx.row(base);
+            let mut words = vec![0; part.cells()];
+            assert_eq!(row(&part.info(), &part.levels, frame, base, &mut words), Ok(()), "{name}");
+            for (word, expected) in words.iter().zip(&libvpx.cells[base * frame.mi_cols..]) {
+                let ours = cell(*word);
+                let expected = (true, expected.level, expected.uvtx);
+                assert_eq!((ours.present, ours.level, ours.uvtx), expected, "{name}, row {base}");
+                cells += 1;
+            }
+        }
+    }
+    say(&format!("{cells} cells have libvpx's level and chroma transform"));
+}
+
+/// Which positions are filtered, and at which size.
+#[test]
+fn edges_equal() {
+    let Some(folder) = libvpx::folder() else {
+        return say("passed over: libvpx's vectors are not at hand");
+    };
+    let (mut positions, mut filtered) = (0, 0);
+    for frame in &libvpx::frames(&folder) {
+        for (plane, pass) in [(0, 0), (0, 1), (1, 0), (1, 1), (2, 0), (2, 1)] {
+            for (x, y, call) in frame.calls(plane, pass) {
+                let (at, cell) = frame.position(plane, pass, x, y);
+                let facts = edge(&at).unwrap();
+                let is_filtered = facts.apply_filter && cell.level > 0;
+                let ours = if is_filtered { facts.size * 64 + cell.level } else { 0 };
+                assert_eq!(ours, call, "{}, plane {plane}, {at:?}", frame.name);
+                positions += 1;
+                filtered += usize::from(is_filtered);
+            }
+        }
+    }
+    say(&format!("{positions} positions are filtered as libvpx's, {filtered} of them at all"));
 }
