@@ -213,3 +213,62 @@ fn lines_refused() {
         line_refused(taps, 8 + u8::from(depth), 2 + u8::from(size), number, place);
     }
 }
+
+/// The cell of case S: 8 by 8 in every plane, transform 1, level 32.
+const CASE_S: u32 = 0x1156_0000;
+
+#[test]
+fn case_s_cells() {
+    let info = ModeInfo {
+        mi_sizes: &[3; 2],
+        tx_sizes: &[1; 2],
+        skips: &[0; 2],
+        ref_frames: &[0; 2],
+        y_modes: &[0; 2],
+        segment_ids: &[0; 2],
+    };
+    let frame = Frame { sharpness: 0, depth: 8, sub_x: 0, sub_y: 0, mi_cols: 2, mi_rows: 1 };
+    let mut cells = [0; 2];
+    assert_eq!(row(&info, &[32; 64], &frame, 0, &mut cells), Ok(()));
+    assert_eq!(cells, [CASE_S; 2]);
+    // Without level.
+    let info = ModeInfo { segment_ids: &[0, 8], ..info };
+    assert_eq!(row(&info, &[32; 64], &frame, 0, &mut cells), Ok(()));
+    assert_eq!(cells, [CASE_S, 0x1150_0000]);
+}
+
+#[test]
+fn case_s_word() {
+    let (skipped, present, level) = (false, true, 32);
+    let (width0, width1, height0, height1, tx, uvtx) = (0, 1, 0, 1, 1, 1);
+    let expected = Cell { width0, width1, height0, height1, tx, uvtx, skipped, present, level };
+    assert_eq!(cell(CASE_S), expected);
+    assert_eq!(cell(0x1150_0000), Cell { present: false, level: 0, ..expected });
+}
+
+/// Its one run: edge 2, 8 positions from 0 on, size 1.
+#[test]
+fn case_s_edges() {
+    for number in 0..16 {
+        for i in 0..64 {
+            let at = Position {
+                pass: 0,
+                row: 0,
+                col: 0,
+                edge: number,
+                i,
+                sub_x: 0,
+                sub_y: 0,
+                mi_cols: 2,
+                mi_rows: 1,
+                mi_size: 3,
+                tx_sz: 1,
+                skip: 0,
+                ref_frame: 0,
+            };
+            let facts = edge(&at).unwrap();
+            assert_eq!(facts.apply_filter, number == 2 && i < 8, "edge {number}, i {i}");
+            assert_eq!(facts.size, 1);
+        }
+    }
+}
