@@ -6,20 +6,47 @@
 //! strength.bin: records of 6 bytes: sharpness, level, the refusal's number or 0, limit, blimit, thresh.
 //! lines.bin: records of 72 bytes: depth, size, limit, blimit, thresh, the refusal's number or 0, its
 //! place, 0; the 16 samples before and the 16 after, of two bytes, the lower first, from p7 to q7.
+//! rows.bin: records of 492 bytes: sharpness, depth, sub_x, sub_y; mi_cols, mi_rows, base; the lengths
+//! of mi_sizes, tx_sizes, skips, ref_frames, y_modes, segment_ids and cells; the refusal's number or 0,
+//! its place; a zero byte; 64 levels; the six lists in the same order; cells before and cells after.
+//! Each list has room for 24 entries, which are 0 behind its length.
+//! edges.bin: records of 46 bytes: pass, sub_x, sub_y, mi_size, tx_sz, skip; the refusal's number or 0,
+//! its place, which is 0; row, col, edge, i, mi_cols, mi_rows; ref_frame; x, y, loop_col, loop_row;
+//! is_block_edge, is_tx_edge, is_32_edge, on_screen, apply_filter, size.
+//! In these two mi_cols, mi_rows, base, row, col, edge and i have two bytes, references, cells, x, y,
+//! loop_col and loop_row four, the lowest first; all else has one.
+
+#[cfg(oracle)]
+mod edges;
+#[cfg(oracle)]
+mod rows;
 
 use crate::lines::{Line, STEP};
 use crate::{cases::Case, libvpx};
 use std::collections::HashSet;
 
 /// Name and contents of each file; no contents where its source is not at hand.
-pub fn files() -> [(&'static str, Option<Vec<u8>>); 4] {
+pub fn files() -> [(&'static str, Option<Vec<u8>>); 6] {
     let folder = libvpx::folder();
+    let (rows, edges) = folder.as_deref().and_then(rows_and_edges).unzip();
     [
         ("levels.bin", levels()),
         ("frames.bin", folder.as_deref().map(frames)),
         ("strength.bin", folder.as_deref().map(strengths)),
         ("lines.bin", folder.as_deref().map(lines)),
+        ("rows.bin", rows),
+        ("edges.bin", edges),
     ]
+}
+
+#[cfg(not(oracle))]
+fn rows_and_edges(_: &std::path::Path) -> Option<(Vec<u8>, Vec<u8>)> {
+    None
+}
+
+#[cfg(oracle)]
+fn rows_and_edges(folder: &std::path::Path) -> Option<(Vec<u8>, Vec<u8>)> {
+    Some((rows::contents(folder), edges::contents(folder)))
 }
 
 #[cfg(not(oracle))]
