@@ -1,6 +1,10 @@
 //! Time of ours and of the Rust: `cargo run --release -p differential --bin bench`.
 
 #[cfg(oracle)]
+mod cells;
+#[cfg(oracle)]
+mod edges;
+#[cfg(oracle)]
 mod levels;
 #[cfg(oracle)]
 mod lines;
@@ -17,4 +21,6 @@ fn main() {
     row::head();
     levels::rows();
     lines::rows();
+    cells::rows();
+    edges::rows();
 }
