@@ -1,8 +1,42 @@
-//! Random positions of edge facts.
+//! Positions of edge facts: the first, the last, random ones.
 
 use crate::random::Random;
 use crate::rows::{mi_count, reference, superblock};
 use springspade::Position;
+
+/// The first position of a frame of one block.
+pub const FIRST: Position = Position {
+    pass: 0,
+    row: 0,
+    col: 0,
+    edge: 0,
+    i: 0,
+    sub_x: 0,
+    sub_y: 0,
+    mi_cols: 1,
+    mi_rows: 1,
+    mi_size: 0,
+    tx_sz: 0,
+    skip: 0,
+    ref_frame: 0,
+};
+
+/// The last position of the last superblock of a frame, all its numbers the largest that are accepted.
+pub const LAST: Position = Position {
+    pass: 1,
+    row: 8,
+    col: 16,
+    edge: 7,
+    i: 31,
+    sub_x: 1,
+    sub_y: 1,
+    mi_cols: 17,
+    mi_rows: 9,
+    mi_size: 12,
+    tx_sz: 3,
+    skip: 1,
+    ref_frame: 3,
+};
 
 /// A random position that is not refused.
 pub fn position(random: &mut Random) -> Position {

@@ -2,6 +2,7 @@
 
 use crate::random::Random;
 use springspade::{Frame, ModeInfo, Returned, row_returned};
+use std::iter;
 
 /// The mode info of one cell.
 #[derive(Debug, Clone, Copy, PartialEq, Eq)]
@@ -25,6 +26,7 @@ pub struct Blocks {
     pub segment_ids: Vec<u8>,
 }
 
+/// A row's arguments.
 #[derive(Debug, Clone, PartialEq, Eq)]
 pub struct Row {
     pub frame: Frame,
@@ -33,6 +35,13 @@ pub struct Row {
     pub levels: [u8; 64],
     pub blocks: Blocks,
 }
+
+/// The largest numbers that are accepted, and the last entry of the level table.
+const LARGEST: Block =
+    Block { mi_size: 12, tx_size: 3, skip: 1, ref_frame: 3, y_mode: 13, segment_id: 7 };
+
+/// Refused for each of its first three numbers.
+pub const BAD: Block = Block { mi_size: 13, tx_size: 4, skip: 2, ..LARGEST };
 
 /// References, modes and segments on both sides of their limits.
 pub const REFERENCES: [i32; 8] = [i32::MIN, -1, 0, 1, 2, 3, 4, i32::MAX];
@@ -56,7 +65,7 @@ impl Block {
     }
 }
 
-/// Any reference; half of them have a level.
+/// Any reference; most of them have a level.
 pub fn reference(random: &mut Random) -> i32 {
     match random.between(0, 7) {
         0 => random.number() as i32,
@@ -130,6 +139,14 @@ impl Row {
         let levels = [(); 64].map(|()| random.between(0, 63) as u8);
         let mut row = Row { frame, base, levels, blocks: Blocks::default() };
         row.blocks.extend((0..row.cells()).map(|_| Block::random(random)));
+        row
+    }
+
+    /// A row whose numbers are the largest that are accepted, its lists as long as its cells.
+    pub fn largest(mi_cols: usize, mi_rows: usize, base: usize) -> Row {
+        let frame = Frame { sharpness: 7, depth: 12, sub_x: 1, sub_y: 1, mi_cols, mi_rows };
+        let mut row = Row { frame, base, levels: [63; 64], blocks: Blocks::default() };
+        row.blocks.extend(iter::repeat_n(LARGEST, row.cells()));
         row
     }
 

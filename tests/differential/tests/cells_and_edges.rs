@@ -171,29 +171,29 @@ fn grid(pass: u8, sub_x: u8, sub_y: u8) -> impl Iterator<Item = (usize, usize)> 
     (0..16 >> sub).flat_map(move |edge| (0..64 >> along).map(move |i| (edge, i)))
 }
 
-/// Every size and transform, with both skips and references, at every position of a superblock.
+/// Every block size, transform and skip, with references around 0, at every position of a superblock.
 fn compare(pass: u8, (sub_x, sub_y): (u8, u8), (mi_cols, mi_rows): (usize, usize)) {
     let (row, col) = ((mi_rows - 1) / 8 * 8, (mi_cols - 1) / 8 * 8);
     for (edge, i) in grid(pass, sub_x, sub_y) {
-        for k in 0..13 * 16 {
-            let (mi_size, tx_sz, skip, ref_frame) =
-                (k / 16, k % 4, k / 4 % 2, i32::from(k / 8 % 2));
-            let at = Position {
-                pass,
-                row,
-                col,
-                edge,
-                i,
-                sub_x,
-                sub_y,
-                mi_cols,
-                mi_rows,
-                mi_size,
-                tx_sz,
-                skip,
-                ref_frame,
-            };
-            assert_eq!(springspade::edge(&at), Ok(facts(&at)), "{at:?}");
+        for mi_size in 0..=12 {
+            for (tx_sz, skip, ref_frame) in (0..24).map(|k| (k % 4, k / 4 % 2, k as i32 / 8 - 1)) {
+                let at = Position {
+                    pass,
+                    row,
+                    col,
+                    edge,
+                    i,
+                    sub_x,
+                    sub_y,
+                    mi_cols,
+                    mi_rows,
+                    mi_size,
+                    tx_sz,
+                    skip,
+                    ref_frame,
+                };
+                assert_eq!(springspade::edge(&at), Ok(facts(&at)), "{at:?}");
+            }
         }
     }
 }

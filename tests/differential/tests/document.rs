@@ -1,6 +1,7 @@
 //! The document's own cases and refusals.
 
 use differential::cases::*;
+use differential::edges::FIRST;
 use differential::lines::STEP;
 use differential::random::Random;
 use springspade::*;
@@ -251,21 +252,7 @@ fn case_s_word() {
 fn case_s_edges() {
     for number in 0..16 {
         for i in 0..64 {
-            let at = Position {
-                pass: 0,
-                row: 0,
-                col: 0,
-                edge: number,
-                i,
-                sub_x: 0,
-                sub_y: 0,
-                mi_cols: 2,
-                mi_rows: 1,
-                mi_size: 3,
-                tx_sz: 1,
-                skip: 0,
-                ref_frame: 0,
-            };
+            let at = Position { edge: number, i, mi_cols: 2, mi_size: 3, tx_sz: 1, ..FIRST };
             let facts = edge(&at).unwrap();
             assert_eq!(facts.apply_filter, number == 2 && i < 8, "edge {number}, i {i}");
             assert_eq!(facts.size, 1);

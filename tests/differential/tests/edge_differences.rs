@@ -1,26 +1,9 @@
 //! The edge facts' inputs of docs/DIFFERENCES.md: two readings of document 01, and where ours refuses.
 #![cfg(oracle)]
 
-use differential::rust;
+use differential::{edges::FIRST, rust};
 use springspade::{EdgeFacts, Position, Refused, edge};
 use std::panic::catch_unwind;
-
-/// The first position of a frame of one block.
-const FIRST: Position = Position {
-    pass: 0,
-    row: 0,
-    col: 0,
-    edge: 0,
-    i: 0,
-    sub_x: 0,
-    sub_y: 0,
-    mi_cols: 1,
-    mi_rows: 1,
-    mi_size: 0,
-    tx_sz: 0,
-    skip: 0,
-    ref_frame: 0,
-};
 
 /// Ours, which are the Rust's.
 fn facts(at: &Position) -> EdgeFacts {

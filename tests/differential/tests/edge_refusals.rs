@@ -1,23 +1,7 @@
 //! Refusals of edge facts: what just passes, what just does not, and which of several comes first.
 
+use differential::edges::LAST;
 use springspade::{EdgeFacts, Position, Refused, Returned, edge, edge_returned};
-
-/// The last position of the last superblock of a frame, subsampled in both directions.
-const LAST: Position = Position {
-    pass: 1,
-    row: 8,
-    col: 16,
-    edge: 7,
-    i: 31,
-    sub_x: 1,
-    sub_y: 1,
-    mi_cols: 17,
-    mi_rows: 9,
-    mi_size: 12,
-    tx_sz: 3,
-    skip: 1,
-    ref_frame: 3,
-};
 
 fn accepted(at: &Position) {
     let (returned, facts) = edge_returned(at);
@@ -49,7 +33,7 @@ fn subsampling() {
     }
 }
 
-/// Numbers of more than 32 bits, of which the lower 32 would pass.
+/// Numbers of more than 32 bits. The lower 32 of the first two could pass.
 const LARGE: [usize; 3] = [1 << 32, (1 << 32) + 8, usize::MAX - 7];
 
 #[test]

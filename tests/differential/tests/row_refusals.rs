@@ -1,25 +1,14 @@
 //! Refusals of the row: what just passes, what just does not, and which of several comes first.
 
-use differential::rows::{Block, Row};
-use springspade::{Frame, Returned};
+use differential::rows::{BAD, Block, Row};
+use springspade::Returned;
 
 /// A word that no row makes.
 const BEFORE: u32 = 0xffff_ffff;
 
-const BLOCK: Block =
-    Block { mi_size: 12, tx_size: 3, skip: 1, ref_frame: 3, y_mode: 13, segment_id: 7 };
-
-/// A row that is accepted, its lists exactly long enough.
-fn row(mi_cols: usize, mi_rows: usize, base: usize) -> Row {
-    let frame = Frame { sharpness: 7, depth: 12, sub_x: 1, sub_y: 1, mi_cols, mi_rows };
-    let mut row = Row { frame, base, levels: [63; 64], blocks: Default::default() };
-    row.blocks.extend((0..row.cells()).map(|_| BLOCK));
-    row
-}
-
 /// Three by two cells in the last rows of a frame.
 fn small() -> Row {
-    row(3, 10, 8)
+    Row::largest(3, 10, 8)
 }
 
 /// What the row returns, and its words.
@@ -84,7 +73,7 @@ fn subsampling() {
     }
 }
 
-/// Numbers of more than 32 bits, of which the lower 32 would pass.
+/// Numbers of more than 32 bits. The lower 32 of the first two could pass.
 const LARGE: [usize; 3] = [1 << 32, (1 << 32) + 8, usize::MAX - 7];
 
 #[test]
@@ -92,7 +81,7 @@ fn frame_sizes() {
     for (mi_cols, mi_rows, base) in
         [(1, 1, 0), (8192, 1, 0), (1, 8192, 8184), (8192, 8192, 8184), (8191, 8191, 8184)]
     {
-        accepted(&row(mi_cols, mi_rows, base));
+        accepted(&Row::largest(mi_cols, mi_rows, base));
     }
     for mi in [0, 8193, 16384, usize::MAX].into_iter().chain(LARGE) {
         refused(&with(|row| row.frame.mi_cols = mi), 4, 0);
@@ -106,14 +95,14 @@ fn bases() {
     for mi_rows in 1..=40 {
         for base in 0..=48 {
             if base % 8 == 0 && base < mi_rows {
-                accepted(&row(3, mi_rows, base));
+                accepted(&Row::largest(3, mi_rows, base));
             } else {
-                refused(&Row { base, ..row(3, mi_rows, 0) }, 5, 0);
+                refused(&Row { base, ..Row::largest(3, mi_rows, 0) }, 5, 0);
             }
         }
     }
     for base in [8191, 8192, usize::MAX].into_iter().chain(LARGE) {
-        refused(&Row { base, ..row(3, 8192, 8184) }, 5, 0);
+        refused(&Row { base, ..Row::largest(3, 8192, 8184) }, 5, 0);
     }
 }
 
@@ -146,7 +135,8 @@ fn cut(row: &mut Row, list: usize, length: usize) {
 
 #[test]
 fn lists_too_short() {
-    for whole in [row(1, 1, 0), small(), row(5, 20, 0), row(2, 24, 16)] {
+    for (mi_cols, mi_rows, base) in [(1, 1, 0), (3, 10, 8), (5, 20, 0), (2, 24, 16)] {
+        let whole = Row::largest(mi_cols, mi_rows, base);
         accepted(&whole);
         let cells = whole.cells();
         for length in [0, cells / 2, cells - 1] {
@@ -159,7 +149,7 @@ fn lists_too_short() {
             }
             refused_over(&whole, length, 7, 0);
             let mut longer = whole.clone();
-            longer.blocks.extend([BLOCK; 8]);
+            longer.blocks.extend([BAD; 8]);
             refused_over(&longer, length, 7, 0);
         }
     }
@@ -167,10 +157,11 @@ fn lists_too_short() {
 
 /// Blocks that are refused, each for one number that is too large.
 fn bad_blocks() -> Vec<Block> {
+    let good = small().blocks.at(0);
     let mut bad = Vec::new();
-    bad.extend([13, 14, 16, 64, 255].map(|mi_size| Block { mi_size, ..BLOCK }));
-    bad.extend([4, 5, 8, 255].map(|tx_size| Block { tx_size, ..BLOCK }));
-    bad.extend([2, 3, 128, 255].map(|skip| Block { skip, ..BLOCK }));
+    bad.extend([13, 14, 16, 64, 255].map(|mi_size| Block { mi_size, ..good }));
+    bad.extend([4, 5, 8, 255].map(|tx_size| Block { tx_size, ..good }));
+    bad.extend([2, 3, 128, 255].map(|skip| Block { skip, ..good }));
     bad
 }
 
@@ -198,7 +189,7 @@ fn blocks() {
             }
         }
     }
-    let wide = row(8192, 8, 0);
+    let wide = Row::largest(8192, 8, 0);
     for k in [0, 255, 256, 8191, 8192, 65_535] {
         let mut row = wide.clone();
         set(&mut row, k, bad[0]);

@@ -2,7 +2,7 @@
 #![cfg(oracle)]
 
 use differential::cells::unpacked;
-use differential::rows::{Block, MODES, REFERENCES, Row, SEGMENTS};
+use differential::rows::{BAD, Block, MODES, REFERENCES, Row, SEGMENTS};
 use differential::{random::Random, rust, say};
 use springspade::{Cell, Frame, Returned, cell};
 use std::array;
@@ -99,20 +99,16 @@ fn rows_equal() {
     let [cut, cells, present, skipped] = array::from_fn(|k| a[k] + b[k]);
     assert!(cut >= rows / 4, "{cut} of {rows} rows end inside their superblocks");
     assert!([present, cells - present, skipped, cells - skipped].iter().all(|&n| n >= cells / 8));
-    say(&format!(
-        "{rows} rows equal the Rust's; fewer than 8 high: {cut}; cells: {cells}, with a level {present}, skipped {skipped}"
-    ));
+    let cells = format!("cells {cells}, with a level {present}, skipped {skipped}");
+    say(&format!("{rows} rows equal the Rust's; fewer than 8 high {cut}, {cells}"));
 }
-
-/// Behind the cells stands mode info that no row takes.
-const BAD: Block =
-    Block { mi_size: 13, tx_size: 4, skip: 2, ref_frame: 0, y_mode: 0, segment_id: 0 };
 
 fn compare_random(rows: usize, seed: u64) -> Counts {
     let mut random = Random(seed);
     let mut counts = Counts::default();
     for _ in 0..rows {
         let mut row = Row::random(&mut random);
+        // Behind the cells of some stands mode info that no row takes.
         row.blocks.extend((0..random.between(0, 2)).map(|_| BAD));
         let cells = compare(&row, random.between(0, 2) as usize);
         counts[0] += usize::from(row.frame.mi_rows - row.base < 8);

@@ -24,7 +24,7 @@ pub struct Position {
     pub ref_frame: i32,
 }
 
-/// What is known of a position: `x` and `y` are luma samples, `loop_col` and `loop_row` the cell that it reads.
+/// What is known of a position. `x` and `y` are in luma samples; `loop_col` and `loop_row` is the cell.
 #[derive(Debug, Clone, Copy, PartialEq, Eq, Default)]
 pub struct EdgeFacts {
     pub x: u32,

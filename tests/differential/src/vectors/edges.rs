@@ -1,7 +1,8 @@
 //! edges.bin: by the Rust, of libvpx's positions among others, and refusals of the document.
 
+use crate::edges::{FIRST, LAST, position};
 use crate::random::Random;
-use crate::{edges, libvpx, rust};
+use crate::{libvpx, rust};
 use springspade::{EdgeFacts, Position};
 use std::collections::HashSet;
 use std::{iter, path::Path};
@@ -10,7 +11,7 @@ pub fn contents(folder: &Path) -> Vec<u8> {
     let mut random = Random(14);
     let mut accepted = document();
     for filtered in [false, true] {
-        let positions = iter::repeat_with(|| edges::position(&mut random));
+        let positions = iter::repeat_with(|| position(&mut random));
         let chosen = positions.filter(|at| rust::edge(at).apply_filter == filtered);
         accepted.extend(chosen.take(350));
     }
@@ -25,23 +26,6 @@ pub fn contents(folder: &Path) -> Vec<u8> {
     let refused = refused().map(|(at, number)| record(&at, number, &EdgeFacts::default()));
     accepted.chain(refused).flatten().collect()
 }
-
-/// The first position of a frame of one block.
-const FIRST: Position = Position {
-    pass: 0,
-    row: 0,
-    col: 0,
-    edge: 0,
-    i: 0,
-    sub_x: 0,
-    sub_y: 0,
-    mi_cols: 1,
-    mi_rows: 1,
-    mi_size: 0,
-    tx_sz: 0,
-    skip: 0,
-    ref_frame: 0,
-};
 
 /// Case S at its edges, and the last columns and rows whose reading is open.
 fn document() -> Vec<Position> {
@@ -80,76 +64,61 @@ fn frames(folder: &Path, random: &mut Random) -> Vec<Position> {
 
 /// Each with its number.
 fn refused() -> [(Position, u8); 52] {
-    let last = Position {
-        pass: 1,
-        row: 8,
-        col: 16,
-        edge: 7,
-        i: 31,
-        sub_x: 1,
-        sub_y: 1,
-        mi_cols: 17,
-        mi_rows: 9,
-        mi_size: 12,
-        tx_sz: 3,
-        skip: 1,
-        ref_frame: 3,
-    };
-    let vertical = Position { pass: 0, ..last };
-    let luma = Position { sub_x: 0, sub_y: 0, ..last };
+    let vertical = Position { pass: 0, ..LAST };
+    let luma = Position { sub_x: 0, sub_y: 0, ..LAST };
     [
-        (Position { sub_x: 2, ..last }, 3),
-        (Position { sub_y: 2, ..last }, 3),
-        (Position { sub_x: 255, sub_y: 255, ..last }, 3),
-        (Position { mi_cols: 0, ..last }, 4),
-        (Position { mi_rows: 0, ..last }, 4),
-        (Position { mi_cols: 8193, ..last }, 4),
-        (Position { mi_rows: 8193, ..last }, 4),
-        (Position { mi_rows: 65535, ..last }, 4),
-        (Position { row: 1, ..last }, 5),
-        (Position { row: 4, ..last }, 5),
-        (Position { row: 7, ..last }, 5),
-        (Position { row: 16, ..last }, 5),
-        (Position { mi_rows: 8, ..last }, 5),
-        (Position { row: 65528, ..last }, 5),
-        (Position { mi_size: 13, ..last }, 8),
-        (Position { mi_size: 255, ..last }, 8),
-        (Position { tx_sz: 4, ..last }, 8),
-        (Position { tx_sz: 255, ..last }, 8),
-        (Position { skip: 2, ..last }, 8),
-        (Position { skip: 255, ..last }, 8),
-        (Position { pass: 2, ..last }, 9),
-        (Position { pass: 255, ..last }, 9),
-        (Position { col: 1, ..last }, 10),
-        (Position { col: 4, ..last }, 10),
-        (Position { col: 15, ..last }, 10),
-        (Position { col: 24, ..last }, 10),
-        (Position { mi_cols: 16, ..last }, 10),
-        (Position { col: 65528, ..last }, 10),
-        (Position { edge: 8, ..last }, 16),
-        (Position { i: 32, ..last }, 16),
+        (Position { sub_x: 2, ..LAST }, 3),
+        (Position { sub_y: 2, ..LAST }, 3),
+        (Position { sub_x: 255, sub_y: 255, ..LAST }, 3),
+        (Position { mi_cols: 0, ..LAST }, 4),
+        (Position { mi_rows: 0, ..LAST }, 4),
+        (Position { mi_cols: 8193, ..LAST }, 4),
+        (Position { mi_rows: 8193, ..LAST }, 4),
+        (Position { mi_rows: 65535, ..LAST }, 4),
+        (Position { row: 1, ..LAST }, 5),
+        (Position { row: 4, ..LAST }, 5),
+        (Position { row: 7, ..LAST }, 5),
+        (Position { row: 16, ..LAST }, 5),
+        (Position { mi_rows: 8, ..LAST }, 5),
+        (Position { row: 65528, ..LAST }, 5),
+        (Position { mi_size: 13, ..LAST }, 8),
+        (Position { mi_size: 255, ..LAST }, 8),
+        (Position { tx_sz: 4, ..LAST }, 8),
+        (Position { tx_sz: 255, ..LAST }, 8),
+        (Position { skip: 2, ..LAST }, 8),
+        (Position { skip: 255, ..LAST }, 8),
+        (Position { pass: 2, ..LAST }, 9),
+        (Position { pass: 255, ..LAST }, 9),
+        (Position { col: 1, ..LAST }, 10),
+        (Position { col: 4, ..LAST }, 10),
+        (Position { col: 15, ..LAST }, 10),
+        (Position { col: 24, ..LAST }, 10),
+        (Position { mi_cols: 16, ..LAST }, 10),
+        (Position { col: 65528, ..LAST }, 10),
+        (Position { edge: 8, ..LAST }, 16),
+        (Position { i: 32, ..LAST }, 16),
         (Position { edge: 8, ..vertical }, 16),
         (Position { i: 32, ..vertical }, 16),
         (Position { edge: 16, ..luma }, 16),
         (Position { i: 64, ..luma }, 16),
-        (Position { edge: 16, sub_y: 0, ..last }, 16),
-        (Position { edge: 8, sub_x: 0, ..last }, 16),
-        (Position { i: 64, sub_x: 0, ..last }, 16),
-        (Position { i: 32, sub_y: 0, ..last }, 16),
+        (Position { edge: 16, sub_y: 0, ..LAST }, 16),
+        (Position { edge: 8, sub_x: 0, ..LAST }, 16),
+        (Position { i: 64, sub_x: 0, ..LAST }, 16),
+        (Position { i: 32, sub_y: 0, ..LAST }, 16),
         (Position { edge: 16, sub_x: 0, ..vertical }, 16),
         (Position { edge: 8, sub_y: 0, ..vertical }, 16),
         (Position { i: 64, sub_y: 0, ..vertical }, 16),
         (Position { i: 32, sub_x: 0, ..vertical }, 16),
         (Position { edge: 65535, ..luma }, 16),
         (Position { i: 65535, ..luma }, 16),
-        (Position { sub_x: 2, mi_cols: 0, ..last }, 3),
-        (Position { mi_rows: 0, row: 1, ..last }, 4),
-        (Position { row: 1, tx_sz: 4, ..last }, 5),
-        (Position { skip: 2, pass: 2, ..last }, 8),
-        (Position { pass: 2, col: 1, ..last }, 9),
-        (Position { col: 1, edge: 8, ..last }, 10),
-        (Position { row: 1, col: 1, ..last }, 5),
-        (Position { mi_size: 13, edge: 16, ..last }, 8),
+        (Position { sub_x: 2, mi_cols: 0, ..LAST }, 3),
+        (Position { mi_rows: 0, row: 1, ..LAST }, 4),
+        (Position { row: 1, tx_sz: 4, ..LAST }, 5),
+        (Position { skip: 2, pass: 2, ..LAST }, 8),
+        (Position { pass: 2, col: 1, ..LAST }, 9),
+        (Position { col: 1, edge: 8, ..LAST }, 10),
+        (Position { row: 1, col: 1, ..LAST }, 5),
+        (Position { mi_size: 13, edge: 16, ..LAST }, 8),
     ]
 }
 

@@ -2,7 +2,7 @@
 
 use crate::cells::packed;
 use crate::random::Random;
-use crate::rows::{Block, MODES, REFERENCES, Row, SEGMENTS};
+use crate::rows::{BAD, Block, MODES, REFERENCES, Row, SEGMENTS};
 use crate::{libvpx, rust};
 use springspade::Frame;
 use std::{array, iter, path::Path};
@@ -74,8 +74,6 @@ fn levels() -> Vec<Row> {
 
 /// Random rows. Behind the cells of some stands mode info that no row takes.
 fn random() -> Vec<Row> {
-    const BAD: Block =
-        Block { mi_size: 13, tx_size: 4, skip: 2, ref_frame: 0, y_mode: 0, segment_id: 0 };
     let mut random = Random(13);
     let rows = iter::repeat_with(|| Row::random(&mut random));
     let mut rows: Vec<Row> = rows.filter(|row| row.cells() <= ENTRIES).take(40).collect();
@@ -103,15 +101,6 @@ fn frames(folder: &Path) -> Vec<Row> {
             row
         })
         .collect()
-}
-
-/// Three by two cells in the last rows of a frame, with a word to spare.
-fn small() -> Record {
-    let frame = Frame { sharpness: 7, depth: 12, sub_x: 1, sub_y: 1, mi_cols: 3, mi_rows: 10 };
-    let block = Block { mi_size: 12, tx_size: 3, skip: 1, ref_frame: 3, y_mode: 13, segment_id: 7 };
-    let blocks = iter::repeat_n(block, 6).collect();
-    let row = Row { frame, base: 8, levels: [63; 64], blocks };
-    Record { row, words: 7, number: 0, place: 0 }
 }
 
 /// What is wrong with a record, and the number and place of its refusal.
@@ -169,7 +158,8 @@ const FAULTS: [Fault; 43] = [
 
 fn refused() -> Vec<Record> {
     let record = |&(number, place, fault): &Fault| {
-        let mut record = Record { number, place, ..small() };
+        // Three by two cells in the last rows of a frame, with a word to spare.
+        let mut record = Record { row: Row::largest(3, 10, 8), words: 7, number, place };
         fault(&mut record);
         record
     };
