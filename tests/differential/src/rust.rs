@@ -125,10 +125,10 @@ pub fn edge(at: &Position) -> EdgeFacts {
         mi_rows,
     );
     EdgeFacts {
-        x: e.x,
-        y: e.y,
-        loop_col: e.loop_col,
-        loop_row: e.loop_row,
+        x: e.x as usize,
+        y: e.y as usize,
+        loop_col: e.loop_col as usize,
+        loop_row: e.loop_row as usize,
         is_block_edge: e.is_block_edge,
         is_tx_edge: e.is_tx_edge,
         is_32_edge: e.is_32_edge,

@@ -151,11 +151,11 @@ fn facts(at: &Position) -> EdgeFacts {
         tx => tx.min(2),
     };
     EdgeFacts {
-        x: x as u32,
-        y: y as u32,
+        x,
+        y,
         // The cell is rounded down to the subsampling grid.
-        loop_col: (x / 8 - x / 8 % (1 + at.sub_x as usize)) as u32,
-        loop_row: (y / 8 - y / 8 % (1 + at.sub_y as usize)) as u32,
+        loop_col: x / 8 - x / 8 % (1 + at.sub_x as usize),
+        loop_row: y / 8 - y / 8 % (1 + at.sub_y as usize),
         is_block_edge,
         is_tx_edge,
         is_32_edge: at.edge == 0 || at.edge == 8,

@@ -27,10 +27,10 @@ pub struct Position {
 /// What is known of a position. `x` and `y` are in luma samples; `loop_col` and `loop_row` is the cell.
 #[derive(Debug, Clone, Copy, PartialEq, Eq, Default)]
 pub struct EdgeFacts {
-    pub x: u32,
-    pub y: u32,
-    pub loop_col: u32,
-    pub loop_row: u32,
+    pub x: usize,
+    pub y: usize,
+    pub loop_col: usize,
+    pub loop_row: usize,
     pub is_block_edge: bool,
     pub is_tx_edge: bool,
     pub is_32_edge: bool,

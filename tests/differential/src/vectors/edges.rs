@@ -128,7 +128,7 @@ fn record(at: &Position, number: u8, facts: &EdgeFacts) -> Vec<u8> {
     bytes.extend(numbers.iter().flat_map(|&n| u16::try_from(n).unwrap().to_le_bytes()));
     bytes.extend(at.ref_frame.to_le_bytes());
     let places = [facts.x, facts.y, facts.loop_col, facts.loop_row];
-    bytes.extend(places.iter().flat_map(|n| n.to_le_bytes()));
+    bytes.extend(places.iter().flat_map(|&n| u32::try_from(n).unwrap().to_le_bytes()));
     let flags = [
         facts.is_block_edge,
         facts.is_tx_edge,
