@@ -7,7 +7,7 @@ use Prim.Native.Nat.{ℕ, _^_, _≤_, _<_, min}
 use native.Mathlib.Nat.{one-le-pow, pow-le-pow-right}
 use native.Mathlib.Omega.{arith}
 use lib.Dec.{eqb, ltb}
-use Rattle.base.specs.First.{found, first, first-is}
+use Rattle.base.specs.First.{found, first-is}
 use Rattle.blocks.specs.BlockSizes.{miWidthLog2, miHeightLog2, num8x8Wide, num8x8High, maxTxSize, invalid, subsampledTo, ssSize, uvTxSize}
 
 -- a block is at most 8 cells wide and high

@@ -1,13 +1,13 @@
 -- What the tests of a frame's numbers leave. Assumes nothing.
 use mathlib.Core.Path.{_≡_}
-use mathlib.Core.Bool.{Bool, false, not, _||_}
-use Prim.Native.Nat.{ℕ, _*_, _%_, _≤_, _<_}
+use mathlib.Core.Bool.{false, not, _||_}
+use Prim.Native.Nat.{ℕ, _%_, _≤_, _<_}
 use native.Mathlib.Nat.{mul-le-mul-right}
 use native.Mathlib.Omega.{arith}
-use lib.Dec.{eqb, ltb, leb}
+use lib.Dec.{eqb, ltb}
 use borrow.Author.Tests.{not-false, eqb-true, ltb-false, leb-false}
 use Rattle.base.specs.Tests.{neither}
-use Rattle.geometry.specs.Frame.{badSubsampling, badFrameSize, badStart, rowsFrom, cellsFrom}
+use Rattle.geometry.specs.Frame.{badFrameSize, badStart, rowsFrom, cellsFrom}
 
 pub record Sized (miCols miRows : ℕ) : Type 0 where
   pub cols : miCols ≤ 8192

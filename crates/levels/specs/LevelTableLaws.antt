@@ -19,7 +19,6 @@ use Rattle.levels.specs.Levels.{clippedLevel, lvlSeg, intraLvl, interLvl
 use Rattle.levels.specs.declared.header.LoopFilterParams.{LoopFilterParams}
 use Rattle.levels.specs.declared.header.SegmentationParams.{SegmentationParams}
 use Rattle.levels.specs.declared.loop_filter.Deltas.{Deltas}
-use Rattle.levels.specs.declared.loop_filter.Lookup.{Lookup}
 use Rattle.levels.specs.declared.loop_filter.Lookup.the-variants.{Found, Nothing}
 
 -- what is clipped is a level

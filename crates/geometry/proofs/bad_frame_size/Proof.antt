@@ -1,10 +1,7 @@
 use Rattle.geometry.specs.Frame.{badFrameSize}
 use Rattle.geometry.proofs.bad_frame_size.Statement.{statement}
 use Rattle.geometry.proofs.bad_frame_size.Tie as tie
-use Rattle.geometry.proofs.bad_frame_size.Reads as reads
-use Rattle.geometry.proofs.bad_frame_size.Lts as lts
 
--- src/lib.rt:46:1
 returns : tie.Need-returns
 unfolding badFrameSize
 returns c = cc

@@ -1,10 +1,7 @@
 use Rattle.geometry.specs.Frame.{badStart}
 use Rattle.geometry.proofs.bad_start.Statement.{statement}
 use Rattle.geometry.proofs.bad_start.Tie as tie
-use Rattle.geometry.proofs.bad_start.Reads as reads
-use Rattle.geometry.proofs.bad_start.Lts as lts
 
--- src/lib.rt:53:1
 returns : tie.Need-returns
 unfolding badStart
 returns c = cc

@@ -1,10 +1,7 @@
 use Rattle.geometry.specs.Frame.{badSubsampling}
 use Rattle.geometry.proofs.bad_subsampling.Statement.{statement}
 use Rattle.geometry.proofs.bad_subsampling.Tie as tie
-use Rattle.geometry.proofs.bad_subsampling.Reads as reads
-use Rattle.geometry.proofs.bad_subsampling.Lts as lts
 
--- src/lib.rt:40:1
 returns : tie.Need-returns
 unfolding badSubsampling
 returns c = cc

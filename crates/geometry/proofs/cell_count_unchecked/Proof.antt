@@ -2,7 +2,7 @@ use borrow.Author.Needs.{needs}
 use mathlib.Core.Path.{_≡_}
 use native.Mathlib.Nat.{mul-le-mul-right}
 use native.Mathlib.Omega.{arith}
-use Prim.Native.Nat.{_-_, _*_, _≤_, _<_}
+use Prim.Native.Nat.{_-_, _≤_}
 use Rattle.geometry.specs.Frame.{rowsFrom}
 use Rattle.geometry.proofs.cell_count_unchecked.Statement.{statement}
 use Rattle.geometry.proofs.cell_count_unchecked.Tie as tie

@@ -6,7 +6,7 @@ use mathlib.Core.Bool.{false}
 use Prim.Native.Nat.{_≤_}
 use lib.Dec.{eqb, ltb}
 use native.Mathlib.Omega.{arith}
-use Rattle.blocks.specs.BlockSizes.{invalid, ssSize, uvTxSize}
+use Rattle.blocks.specs.BlockSizes.{ssSize, uvTxSize}
 use Rattle.blocks.specs.BlockSizesLaws.{ss-size}
 use Rattle.blocks.proofs.residual.get_uv_tx_size_unchecked.Statement.{statement}
 use Rattle.blocks.proofs.residual.get_uv_tx_size_unchecked.Tie as tie

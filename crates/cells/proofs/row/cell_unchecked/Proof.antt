@@ -1,6 +1,5 @@
 use borrow.Author.Needs.{needs}
 use mathlib.Core.Bool.{true}
-use mathlib.Core.Path.{_≡_}
 use Prim.Native.Nat.{_≤_}
 use mir.Facts.{toZ-ofZ}
 use Rattle.blocks.specs.ModeInfo.{sbSize}

@@ -1,6 +1,4 @@
 use borrow.Author.Needs.{needs}
-use mathlib.Core.Bool.{false}
-use mathlib.Core.List.{List}
 use mathlib.Core.Path.{_≡_, refl}
 use Prim.Native.Nat.{ℕ, _-_, _≤_, _<_}
 use native.Mathlib.Nat.{zero-add}
@@ -8,7 +6,7 @@ use native.Mathlib.Omega.{arith}
 use lib.ListN.{length, getD, length-set}
 use mir.Syntax.{w32}
 use Rattle.base.specs.Filled.{filled, filled-none, filled-more}
-use Rattle.base.specs.First.{found, found-false}
+use Rattle.base.specs.First.{found-false}
 use Rattle.base.specs.Machine.{back}
 use Rattle.blocks.specs.ModeInfoLaws.{Block, block}
 use Rattle.cells.specs.Row.{ModeInfo, modeInfo, cellAt, wordAt, badAt}

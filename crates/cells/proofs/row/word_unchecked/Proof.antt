@@ -1,5 +1,4 @@
 use borrow.Author.Needs.{needs}
-use mathlib.Core.Path.{_≡_}
 use mir.Facts.{toZ-ofZ}
 use Rattle.cells.specs.RowLaws.{cell-fits}
 use Rattle.cells.proofs.row.word_unchecked.Statement.{statement}

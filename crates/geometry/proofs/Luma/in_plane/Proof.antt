@@ -1,4 +1,3 @@
-use mathlib.Core.Path.{_≡_}
 use Rattle.geometry.proofs.Luma.in_plane.Statement.{statement}
 use Rattle.geometry.proofs.Luma.in_plane.Tie as tie
 
