@@ -1,5 +1,2 @@
 pub mod Cell
 pub mod CellLaws
-pub mod Row
-pub mod RowLaws
-pub mod RowStandard

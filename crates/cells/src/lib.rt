@@ -1,9 +1,7 @@
-// The cells of a superblock row, packed into words.
+// A cell packed into a word.
 ghost use mathlib.Core.Path.{_≡_};
 ghost use Prim.Native.Nat.{_≤_};
 ghost use Rattle.cells.specs.Cell.{bit, packed, cellOf, Fields};
-
-pub mod row;
 
 // What the pass reads of a cell: logarithms of width and height in 8-sample blocks, for subsampling 0 and 1; transform and chroma
 // transform; skip set and not intra; whether there is a level, and the level, 0 where there is none.
@@ -46,7 +44,7 @@ fn bit(b: bool) -> u32
 }
 
 // The word of a cell whose fields fit their bits.
-pub(crate) fn pack_unchecked(c: LfCell) -> u32
+pub fn pack_unchecked(c: LfCell) -> u32
     requires { ⌜ Fields c ⌝ }
     ensures { λ r. ⌜ r ≡ packed c ⌝ }
 {

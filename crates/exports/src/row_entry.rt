@@ -3,11 +3,11 @@ ghost use mathlib.Core.Path.{_≡_};
 ghost use Prim.Native.Nat.{_≤_};
 ghost use Rattle.base.specs.Outcome.{Answers};
 ghost use Rattle.cells.specs.Cell.{cellOf};
-ghost use Rattle.cells.specs.Row.{modeInfo, row, returnedOf};
+ghost use Rattle.row.specs.Row.{modeInfo, row, returnedOf};
 ghost use Rattle.exports.specs.Border.{numbersOf};
 use crate::border::Refusal;
 use cells::LfCell;
-use cells::row::RowAnswer;
+use row::RowAnswer;
 
 fn refusal(number: u32, place: usize) -> Refusal
     requires { ⌜ place ≤ 65536 ⌝ }
@@ -57,7 +57,7 @@ pub extern "C" fn springspade_row(
 ) -> Refusal
     ensures { λ r. ⌜ Answers (row (modeInfo (now («mi_sizes» .entry)) (now («tx_sizes» .entry)) (now (skips .entry)) (now («ref_frames» .entry)) (now («y_modes» .entry)) (now («segment_ids» .entry))) (now (levels .entry)) sharpness depth «sub_x» «sub_y» «mi_cols» «mi_rows» base (now (cells .entry))) (numbersOf r) (now (cells .entry)) (now (cells .exit)) ⌝ }
 {
-    let answer = cells::row::row_cells(
+    let answer = row::row_cells(
         mi_sizes,
         tx_sizes,
         skips,

@@ -1,8 +1,8 @@
 use borrow.Author.Needs.{needs}
 use mathlib.Core.Path.{_≡_, sym, ap, _∙_}
 use Prim.Native.Nat.{_≤_}
-use Rattle.cells.specs.Row.{returnedOf}
-use Rattle.cells.specs.declared.row.RowAnswer.{RowAnswer}
+use Rattle.row.specs.Row.{returnedOf}
+use Rattle.row.specs.declared.RowAnswer.{RowAnswer}
 use Rattle.exports.proofs.row_entry.refusal_of.Statement.{statement}
 use Rattle.exports.proofs.row_entry.refusal_of.Tie as tie
 

@@ -1,8 +1,8 @@
 use borrow.Author.Needs.{needs}
 use mathlib.Core.Path.{_∙_}
 use denote.Ref.{now}
-use Rattle.cells.specs.Row.{modeInfo}
-use Rattle.cells.specs.RowLaws.{row-place}
+use Rattle.row.specs.Row.{modeInfo}
+use Rattle.row.specs.RowLaws.{row-place}
 use Rattle.exports.proofs.row_entry.springspade_row.Statement.{statement}
 use Rattle.exports.proofs.row_entry.springspade_row.Tie as tie
 
