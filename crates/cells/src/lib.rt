@@ -4,7 +4,7 @@ ghost use Prim.Native.Nat.{_≤_};
 ghost use Rattle.cells.specs.Cell.{bit, packed, cellOf, Fields};
 
 // What the pass reads of a cell: logarithms of width and height in 8-sample blocks, for subsampling 0 and 1; transform and chroma
-// transform; skip set and not intra; whether there is a level, and the level, 0 where there is none.
+// transform; document 01's skipped-inter, which is skip set and not intra, and level present; and the level, 0 where there is none.
 #[repr(C)]
 pub struct LfCell {
     pub width0: u8,

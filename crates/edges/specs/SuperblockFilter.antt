@@ -79,6 +79,6 @@ atBorder Horizontal x y = eqb y 0
 unfoldable pub onScreen : Superblock → Pass → (x y : ℕ) → Bool
 onScreen s pass x y = not (leb (8 * s .cols) x || leb (8 * s .rows) y || atBorder pass x y)
 
--- step 14
+-- step 14. Document 01 calls such a position decided.
 unfoldable pub applyFilter : (onScreen isBlockEdge isTxEdge isIntra skip : Bool) → Bool
 applyFilter onScreen isBlockEdge isTxEdge isIntra skip = onScreen && (isBlockEdge || isTxEdge && (isIntra || not skip))
