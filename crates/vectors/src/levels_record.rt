@@ -1,7 +1,7 @@
 // A record of a frame's level table, laid out as tests/differential/src/vectors.rs says.
 ghost use Prim.Native.Nat.{_<_};
+use crate::numbers::unsigned16;
 use crate::replay::Record;
-use crate::replay::unsigned16;
 use levels::header::Delta;
 use levels::header::LoopFilterParams;
 use levels::header::SegmentationParams;

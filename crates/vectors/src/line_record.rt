@@ -1,7 +1,8 @@
 // A record of a line, laid out as tests/differential/src/vectors.rs says.
 ghost use Prim.Native.Nat.{_≤_};
+use crate::numbers::unsigned16;
+use crate::numbers::wide;
 use crate::replay::Record;
-use crate::replay::unsigned16;
 use line::LineAnswer;
 use line::sample_filtering;
 
@@ -26,10 +27,6 @@ fn are_same(a: &[u16; 16], b: &[u16; 16]) -> bool {
         }
     }
     true
-}
-
-fn wide(byte: u8) -> usize {
-    byte as usize
 }
 
 fn is_refusal(record: &Record, number: u8, place: usize) -> bool {

@@ -1,6 +1,8 @@
 // Replays the fixed test vectors of data/ and prints a line for each file.
+mod edge_record;
 mod levels_record;
 mod line_record;
+mod numbers;
 mod replay;
 mod strength_record;
 
@@ -12,4 +14,5 @@ fn main() {
     replay_file(b"frames.bin", Kind::Levels);
     replay_file(b"strength.bin", Kind::Strength);
     replay_file(b"lines.bin", Kind::Line);
+    replay_file(b"edges.bin", Kind::Edge);
 }

@@ -1,5 +1,6 @@
 // Reads a file of records, counts those that the library answers as they say, and prints the count.
 ghost use Prim.Native.Nat.{_≤_};
+use crate::edge_record;
 use crate::levels_record;
 use crate::line_record;
 use crate::strength_record;
@@ -13,15 +14,11 @@ pub(crate) enum Kind {
     Levels,
     Strength,
     Line,
+    Edge,
 }
 
 // A record stands at the start: with one length for all kinds, one loop reads them all.
 pub(crate) type Record = [u8; 4096];
-
-// A record's number of two bytes.
-pub(crate) fn unsigned16(low: u8, high: u8) -> u16 {
-    high as u16 * 256 + low as u16
-}
 
 enum Outcome {
     Equal,
@@ -43,6 +40,7 @@ fn record_length(kind: Kind) -> usize
         Kind::Levels => levels_record::LENGTH,
         Kind::Strength => strength_record::LENGTH,
         Kind::Line => line_record::LENGTH,
+        Kind::Edge => edge_record::LENGTH,
     }
 }
 
@@ -51,6 +49,7 @@ fn is_equal(kind: Kind, record: &Record) -> bool {
         Kind::Levels => levels_record::is_equal(record),
         Kind::Strength => strength_record::is_equal(record),
         Kind::Line => line_record::is_equal(record),
+        Kind::Edge => edge_record::is_equal(record),
     }
 }
 
