@@ -4,6 +4,7 @@ mod levels_record;
 mod line_record;
 mod numbers;
 mod replay;
+mod row_record;
 mod strength_record;
 
 use replay::Kind;
@@ -14,5 +15,6 @@ fn main() {
     replay_file(b"frames.bin", Kind::Levels);
     replay_file(b"strength.bin", Kind::Strength);
     replay_file(b"lines.bin", Kind::Line);
+    replay_file(b"rows.bin", Kind::Row);
     replay_file(b"edges.bin", Kind::Edge);
 }

@@ -3,6 +3,7 @@ ghost use Prim.Native.Nat.{_≤_};
 use crate::edge_record;
 use crate::levels_record;
 use crate::line_record;
+use crate::row_record;
 use crate::strength_record;
 use libc::STDOUT_FILENO;
 
@@ -14,6 +15,7 @@ pub(crate) enum Kind {
     Levels,
     Strength,
     Line,
+    Row,
     Edge,
 }
 
@@ -40,6 +42,7 @@ fn record_length(kind: Kind) -> usize
         Kind::Levels => levels_record::LENGTH,
         Kind::Strength => strength_record::LENGTH,
         Kind::Line => line_record::LENGTH,
+        Kind::Row => row_record::LENGTH,
         Kind::Edge => edge_record::LENGTH,
     }
 }
@@ -49,6 +52,7 @@ fn is_equal(kind: Kind, record: &Record) -> bool {
         Kind::Levels => levels_record::is_equal(record),
         Kind::Strength => strength_record::is_equal(record),
         Kind::Line => line_record::is_equal(record),
+        Kind::Row => row_record::is_equal(record),
         Kind::Edge => edge_record::is_equal(record),
     }
 }
