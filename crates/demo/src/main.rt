@@ -2,6 +2,7 @@
 // before and after the filter.
 ghost use Prim.Native.Nat.{_<_};
 
+mod output;
 mod step;
 
 use levels::header::Delta;
@@ -9,6 +10,7 @@ use levels::header::LoopFilterParams;
 use levels::header::SegmentationParams;
 use levels::loop_filter::level_table;
 use libc::STDOUT_FILENO;
+use output::print_number;
 use step::print_line;
 use strength::StrengthAnswer;
 use strength::strength_for_level;
@@ -41,11 +43,6 @@ fn segments() -> SegmentationParams {
         feature_enabled: on,
         feature_data: data,
     }
-}
-
-pub(crate) fn print_number(name: &[u8], number: u8) {
-    io::write_all(STDOUT_FILENO, name);
-    io::print_decimal(STDOUT_FILENO, number as u64);
 }
 
 fn print_level(level: u8) {

@@ -1,5 +1,5 @@
 // Prints a built-in line, a step at the edge, before the filter and after it at each size.
-use crate::print_number;
+use crate::output::print_number;
 use libc::STDOUT_FILENO;
 use line::LineAnswer;
 use line::sample_filtering;
