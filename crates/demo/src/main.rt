@@ -1,8 +1,10 @@
-// Prints the level table of a built-in frame header, the strengths of some of its levels, and a line
-// before and after the filter.
+// Prints the level table of a built-in frame header, the strengths of some of its levels, a line before
+// and after the filter, the cells of a row and the facts of some of its edges.
 ghost use Prim.Native.Nat.{_<_};
 
 mod output;
+mod position;
+mod row;
 mod step;
 
 use levels::header::Delta;
@@ -11,6 +13,8 @@ use levels::header::SegmentationParams;
 use levels::loop_filter::level_table;
 use libc::STDOUT_FILENO;
 use output::print_number;
+use position::print_edges;
+use row::print_row;
 use step::print_line;
 use strength::StrengthAnswer;
 use strength::strength_for_level;
@@ -91,4 +95,6 @@ fn main() {
     print_strength(levels[0], 5);
     print_strength(levels[8], 0);
     print_line();
+    print_row();
+    print_edges();
 }
