@@ -2,11 +2,12 @@
 // and after the filter, the cells of a row and the facts of some of its edges.
 ghost use Prim.Native.Nat.{_<_};
 
+mod case_s;
 mod output;
 mod position;
-mod row;
 mod step;
 
+use case_s::print_row;
 use levels::header::Delta;
 use levels::header::LoopFilterParams;
 use levels::header::SegmentationParams;
@@ -14,7 +15,6 @@ use levels::loop_filter::level_table;
 use libc::STDOUT_FILENO;
 use output::print_number;
 use position::print_edges;
-use row::print_row;
 use step::print_line;
 use strength::StrengthAnswer;
 use strength::strength_for_level;

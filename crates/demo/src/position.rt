@@ -1,13 +1,13 @@
 // Prints the facts of some positions of the built-in row.
+use crate::case_s::INTRA;
+use crate::case_s::MI_COLS;
+use crate::case_s::MI_ROWS;
+use crate::case_s::MI_SIZE;
+use crate::case_s::SKIP;
+use crate::case_s::TX_SIZE;
 use crate::output::print_flag;
 use crate::output::print_number;
 use crate::output::print_place;
-use crate::row::INTRA;
-use crate::row::MI_COLS;
-use crate::row::MI_ROWS;
-use crate::row::MI_SIZE;
-use crate::row::SKIP;
-use crate::row::TX_SIZE;
 use edges::superblock_filter::EdgeAnswer;
 use edges::superblock_filter::SuperblockFilterMi;
 use edges::superblock_filter::superblock_filter_edge;

@@ -5,8 +5,8 @@ use crate::numbers::unsigned32_at;
 use crate::numbers::wide;
 use crate::numbers::wide16_at;
 use crate::replay::Record;
-use cells::row::RowAnswer;
-use cells::row::row_cells;
+use row::RowAnswer;
+use row::row_cells;
 
 pub(crate) const LENGTH: usize = 492;
 

@@ -2,9 +2,9 @@
 use crate::output::print_flag;
 use crate::output::print_number;
 use cells::LfCell;
-use cells::row::RowAnswer;
-use cells::row::row_cells;
 use libc::STDOUT_FILENO;
+use row::RowAnswer;
+use row::row_cells;
 
 // Both blocks have 8 by 8 samples, and the frame has no other cells.
 pub(crate) const MI_SIZE: u8 = 3;
@@ -20,7 +20,7 @@ pub(crate) const MI_COLS: usize = 2;
 pub(crate) const MI_ROWS: usize = 1;
 
 // Every entry of the level table is 32, so mode 0 and segment 0 stand for any.
-fn row(cells: &mut [u32]) -> RowAnswer {
+fn made_row(cells: &mut [u32]) -> RowAnswer {
     row_cells(
         &[MI_SIZE; 2],
         &[TX_SIZE; 2],
@@ -57,7 +57,7 @@ fn print_cell(name: &[u8], word: u32) {
 
 pub(crate) fn print_row() {
     let mut cells = [0u32; 2];
-    let answer = row(&mut cells);
+    let answer = made_row(&mut cells);
     let RowAnswer::Done = answer else {
         return;
     };
