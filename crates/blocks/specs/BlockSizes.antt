@@ -1,8 +1,11 @@
 -- Block sizes, and the transform of a chroma block: 6.4.22, 6.4.23, 10.2.
 -- Assumes nothing.
 use mathlib.Core.Bool.{Bool, cond, _&&_}
+use mathlib.Core.List.{List}
 use Prim.Native.Nat.{ℕ, _+_, _-_, _/_, _%_, _^_, min}
 use lib.Dec.{eqb, ltb}
+use lib.ListN.{replicate}
+use Rattle.base.specs.Filled.{filled}
 use Rattle.base.specs.First.{first, found}
 
 -- Sizes come in threes: a square of 4 << n samples, the same of twice its height, the same of twice its width. So
@@ -22,6 +25,10 @@ miWidthLog2 size = bWidthLog2 size - 1
 
 unfoldable pub miHeightLog2 : ℕ → ℕ
 miHeightLog2 size = bHeightLog2 size - 1
+
+-- a table by block size
+abbrev pub bySize : (ℕ → ℕ) → List ℕ
+bySize f = filled f 0 13 (replicate 13 0)
 
 -- num_8x8_blocks_wide_lookup and num_8x8_blocks_high_lookup
 unfoldable pub num8x8Wide : ℕ → ℕ
@@ -47,6 +54,11 @@ subsampledTo size subX subY s =
 unfoldable pub ssSize : (size : ℕ) (subX subY : Bool) → ℕ
 ssSize size subX subY =
     cond (found (subsampledTo size subX subY) 13) (first (subsampledTo size subX subY) 13) invalid
+
+-- the largest transform of a block in planes 1 and 2: get_uv_tx_size( ) without tx_size
+unfoldable pub uvLimit : (subX subY : Bool) (miSize : ℕ) → ℕ
+uvLimit subX subY miSize =
+    cond (ltb miSize 3) 0 (cond (eqb (ssSize miSize subX subY) invalid) 0 (maxTxSize (ssSize miSize subX subY)))
 
 -- get_uv_tx_size( ). Where the chroma shape does not exist VP9-S has no case, and document 01 gives 0.
 unfoldable pub uvTxSize : (txSize miSize : ℕ) (subX subY : Bool) → ℕ

@@ -1,7 +1,7 @@
-// The transform of a chroma block, from the Rust's residual.rs.
+// The transforms of chroma blocks, from the Rust's residual.rs.
 ghost use mathlib.Core.Path.{_≡_};
 ghost use Prim.Native.Nat.{_≤_};
-ghost use Rattle.blocks.specs.BlockSizes.{maxTxSize, ssSize, uvTxSize};
+ghost use Rattle.blocks.specs.BlockSizes.{bySize, maxTxSize, ssSize, uvLimit};
 
 const BLOCK_8X8: u8 = 3;
 
@@ -49,10 +49,9 @@ fn ss_size_unchecked(size: u8, subx: bool, suby: bool) -> u8
     }
 }
 
-// The transform of a block in planes 1 and 2, of a size that was tested.
-pub fn get_uv_tx_size_unchecked(tx_size: u8, mi_size: u8, subx: bool, suby: bool) -> u8
+fn uv_limit_unchecked(subx: bool, suby: bool, mi_size: u8) -> u8
     requires { ⌜ «mi_size» ≤ 12 ⌝ }
-    ensures { λ r. ⌜ r ≡ uvTxSize «tx_size» «mi_size» subx suby ⌝ }
+    ensures { λ r. ⌜ r ≡ uvLimit subx suby «mi_size» ⌝ }
 {
     if mi_size < BLOCK_8X8 {
         return 0;
@@ -61,6 +60,16 @@ pub fn get_uv_tx_size_unchecked(tx_size: u8, mi_size: u8, subx: bool, suby: bool
     if plane_size == BLOCK_INVALID {
         return 0;
     }
-    let largest = max_tx_size_unchecked(plane_size);
-    if tx_size < largest { tx_size } else { largest }
+    max_tx_size_unchecked(plane_size)
+}
+
+// The largest transform of each block size in planes 1 and 2.
+pub fn uv_limit_table(subx: bool, suby: bool) -> [u8; 13]
+    ensures { λ r. ⌜ r ≡ bySize (uvLimit subx suby) ⌝ }
+{
+    let mut limits = [0u8; 13];
+    for size in 0..13 {
+        limits[size] = uv_limit_unchecked(subx, suby, size as u8);
+    }
+    limits
 }

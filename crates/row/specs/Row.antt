@@ -22,9 +22,9 @@ use Rattle.row.specs.declared.RowAnswer.the-variants.{Done, Sharpness, D
 
 -- ---- one cell
 
--- what the pass reads of a cell, from its mode info. An absent level is written 0.
-unfoldable pub cellFrom : (levels : List ℕ) (subX subY : Bool) (miSize txSize skip : ℕ) (refFrame : ℤ) (yMode segment : ℕ) → LfCell
-cellFrom levels subX subY miSize txSize skip refFrame yMode segment =
+-- what the pass reads of a cell, from its mode info and its chroma transform. An absent level is written 0.
+unfoldable pub cellFrom : (levels : List ℕ) (miSize txSize uvTx skip : ℕ) (refFrame : ℤ) (yMode segment : ℕ) → LfCell
+cellFrom levels miSize txSize uvTx skip refFrame yMode segment =
     let lvl = lookupOf levels segment refFrame (modeType yMode) in
     record {
       width0 = miWidthLog2 (sbSize false miSize);
@@ -32,7 +32,7 @@ cellFrom levels subX subY miSize txSize skip refFrame yMode segment =
       height0 = miHeightLog2 (sbSize false miSize);
       height1 = miHeightLog2 (sbSize true miSize);
       tx = txSize;
-      uvtx = uvTxSize txSize miSize subX subY;
+      uvtx = uvTx;
       skipped = eqb skip 1 && not (isIntra refFrame);
       present = isFound lvl;
       level = foundLevel lvl;
@@ -55,7 +55,7 @@ modeInfo sizes txs skips refs modes segments =
 
 unfoldable pub cellAt : ModeInfo → (levels : List ℕ) (subX subY : Bool) (k : ℕ) → LfCell
 cellAt m levels subX subY k =
-    cellFrom levels subX subY (getD (m .sizes) k 0) (getD (m .txs) k 0) (getD (m .skips) k 0) (getD (m .refs) k (pos 0)) (getD (m .modes) k 0) (getD (m .segments) k 0)
+    cellFrom levels (getD (m .sizes) k 0) (getD (m .txs) k 0) (uvTxSize (getD (m .txs) k 0) (getD (m .sizes) k 0) subX subY) (getD (m .skips) k 0) (getD (m .refs) k (pos 0)) (getD (m .modes) k 0) (getD (m .segments) k 0)
 
 abbrev pub wordAt : ModeInfo → (levels : List ℕ) (subX subY : Bool) (k : ℕ) → ℕ
 wordAt m levels subX subY k = packed (cellAt m levels subX subY k)

@@ -15,7 +15,7 @@ use Rattle.base.specs.First.{first, found, found-false, first-small}
 use Rattle.base.specs.Outcome.{Outcome, accepted, refused, returned}
 use Rattle.base.specs.OutcomeLaws.{refuse-place}
 use Rattle.base.specs.Tests.{neither}
-use Rattle.blocks.specs.BlockSizesLaws.{width-small, height-small, uv-tx-small}
+use Rattle.blocks.specs.BlockSizesLaws.{width-small, height-small}
 use Rattle.blocks.specs.ModeInfo.{sbSize}
 use Rattle.blocks.specs.ModeInfoLaws.{block, sb-size-small}
 use Rattle.geometry.specs.Frame.{badSubsampling, badFrameSize, badStart, cellsFrom}
@@ -31,16 +31,16 @@ pub levels-small : (levels : List ℕ) → found (badLevel levels) 64 ≡ false 
 levels-small levels e k h = ltb-false 63 (getD levels k 0) (found-false (badLevel levels) 64 e k h)
 
 -- the cell of a block that is not bad fits its word
-pub cell-fits : (levels : List ℕ) (subX subY : Bool) (miSize txSize skip : ℕ) (refFrame : ℤ) (yMode segment : ℕ) → miSize ≤ 12 → txSize ≤ 3 → found (badLevel levels) 64 ≡ false → Fields (cellFrom levels subX subY miSize txSize skip refFrame yMode segment)
+pub cell-fits : (levels : List ℕ) (miSize txSize uvTx skip : ℕ) (refFrame : ℤ) (yMode segment : ℕ) → miSize ≤ 12 → txSize ≤ 3 → uvTx ≤ 3 → found (badLevel levels) 64 ≡ false → Fields (cellFrom levels miSize txSize uvTx skip refFrame yMode segment)
 unfolding cellFrom
-cell-fits levels subX subY miSize txSize skip refFrame yMode segment s t e =
+cell-fits levels miSize txSize uvTx skip refFrame yMode segment s t u e =
     record {
       width0 = omega (arith, width-small (sbSize false miSize) (sb-size-small false miSize s));
       width1 = omega (arith, width-small (sbSize true miSize) (sb-size-small true miSize s));
       height0 = omega (arith, height-small (sbSize false miSize) (sb-size-small false miSize s));
       height1 = omega (arith, height-small (sbSize true miSize) (sb-size-small true miSize s));
       tx = omega arith;
-      uvtx = omega (arith, uv-tx-small txSize miSize subX subY);
+      uvtx = omega arith;
       level = omega (arith, lookup-small levels segment refFrame (modeType yMode) 63 (levels-small levels e));
     }
 

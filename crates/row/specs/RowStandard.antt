@@ -16,6 +16,7 @@ use Rattle.base.specs.First.{found, found-false}
 use Rattle.base.specs.Outcome.{accepted}
 use Rattle.base.specs.OutcomeLaws.{passed, result-is}
 use Rattle.blocks.specs.BlockSizes.{miWidthLog2, miHeightLog2, num8x8Wide, num8x8High, uvTxSize}
+use Rattle.blocks.specs.BlockSizesLaws.{uv-tx-small}
 use Rattle.blocks.specs.ModeInfo.{sbSize, isIntra}
 use Rattle.blocks.specs.ModeInfoLaws.{block}
 use Rattle.geometry.specs.Frame.{badSubsampling, badFrameSize, badStart, cellsFrom}
@@ -56,7 +57,7 @@ row-cell m levels subX subY n cells result made k h =
     let b = block _ _ _ (found-false (badAt m) n (made .blocks-fit) k h) in
     let l = long m cells n (made .lists-fit) in
     let at = rw (zero-add k) at (filled-at (wordAt m levels subX subY) 0 n cells k h (omega (arith, l .cells))) in
-    rw (made .result-is, at) (fields-back _ (cell-fits levels subX subY _ _ _ _ _ _ (b .size) (b .tx) (made .levels-fit)))
+    rw (made .result-is, at) (fields-back _ (cell-fits levels _ _ _ _ _ _ _ (b .size) (b .tx) (omega (arith, b .tx, uv-tx-small (getD (m .txs) k 0) (getD (m .sizes) k 0) subX subY)) (made .levels-fit)))
 
 -- and what stood behind the row's cells stands there still
 pub row-left : (m : ModeInfo) (levels : List ℕ) (subX subY : Bool) (n : ℕ) (cells result : List ℕ) → Made m levels subX subY n cells result → (k : ℕ) → n ≤ k → getD result k 0 ≡ getD cells k 0
@@ -80,7 +81,7 @@ pub record Standard (levels : List ℕ) (subX subY : Bool) (miSize txSize skip :
   pub no-reference : (ref : ℕ) → refFrame ≡ pos ref → 4 ≤ ref → (c .present ≡ false) × (c .level ≡ 0)
   pub negative : (n : ℕ) → refFrame ≡ negsuc n → (c .present ≡ false) × (c .level ≡ 0)
 
-cell-standard : (levels : List ℕ) (subX subY : Bool) (miSize txSize skip : ℕ) (refFrame : ℤ) (yMode segment : ℕ) → Standard levels subX subY miSize txSize skip refFrame yMode segment (cellFrom levels subX subY miSize txSize skip refFrame yMode segment)
+cell-standard : (levels : List ℕ) (subX subY : Bool) (miSize txSize skip : ℕ) (refFrame : ℤ) (yMode segment : ℕ) → Standard levels subX subY miSize txSize skip refFrame yMode segment (cellFrom levels miSize txSize (uvTxSize txSize miSize subX subY) skip refFrame yMode segment)
 unfolding cellFrom num8x8Wide num8x8High
 cell-standard levels subX subY miSize txSize skip refFrame yMode segment =
     record {

@@ -1,11 +1,12 @@
 // The cells of a superblock row, as LfRowCells::new of the Rust's superblock_loop_filter.rs makes them.
 ghost use mathlib.Core.Path.{_≡_};
 ghost use mathlib.Core.Bool.{false};
-ghost use Prim.Native.Nat.{_≤_};
-ghost use lib.ListN.{length};
+ghost use Prim.Native.Nat.{_≤_, min};
+ghost use lib.ListN.{length, getD};
 ghost use Rattle.base.specs.Filled.{filled};
 ghost use Rattle.base.specs.First.{first, found};
 ghost use Rattle.base.specs.Outcome.{Answers};
+ghost use Rattle.blocks.specs.BlockSizes.{bySize, miWidthLog2, miHeightLog2};
 ghost use Rattle.levels.specs.Levels.{isFound, foundLevel};
 ghost use Rattle.cells.specs.Cell.{packed};
 ghost use Rattle.row.specs.Row.{cellFrom, modeInfo, wordAt, badLevel, tooShort, badBlockAt, badAt, row, returnedOf};
@@ -13,9 +14,9 @@ use base::is_supported;
 use blocks::mode_info::bad_block;
 use blocks::mode_info::is_intra;
 use blocks::mode_info::sb_size;
-use blocks::partition::mi_height_log2_unchecked;
-use blocks::partition::mi_width_log2_unchecked;
-use blocks::residual::get_uv_tx_size_unchecked;
+use blocks::partition::mi_height_log2_table;
+use blocks::partition::mi_width_log2_table;
+use blocks::residual::uv_limit_table;
 use cells::LfCell;
 use cells::pack_unchecked;
 use geometry::bad_frame_size;
@@ -57,22 +58,34 @@ fn found_level(lvl: Lookup) -> u8
     }
 }
 
-// What the pass reads of a cell whose size was tested.
+// get_uv_tx_size( ), by the limits of the frame's subsampling.
+fn uv_tx_unchecked(limits: &[u8; 13], tx_size: u8, mi_size: u8) -> u8
+    requires { ⌜ «mi_size» ≤ 12 ⌝ }
+    ensures { λ r. ⌜ r ≡ min «tx_size» (getD (now (limits .entry)) «mi_size» 0) ⌝ }
+{
+    let at = mi_size as usize;
+    let limit = limits[at];
+    if tx_size < limit { tx_size } else { limit }
+}
+
+// What the pass reads of a cell whose size was tested; widths and heights are the tables of logarithms.
 fn cell_unchecked(
     levels: &[u8; 64],
-    subx: bool,
-    suby: bool,
+    widths: &[u8; 13],
+    heights: &[u8; 13],
     mi_size: u8,
     tx_size: u8,
+    uv_tx: u8,
     skip: u8,
     ref_frame: i32,
     y_mode: u8,
     segment_id: u8,
 ) -> LfCell
-    requires { ⌜ «mi_size» ≤ 12 ⌝ }
-    ensures { λ r. ⌜ r ≡ cellFrom (now (levels .entry)) subx suby «mi_size» «tx_size» skip «ref_frame» «y_mode» «segment_id» ⌝ }
+    requires { ⌜ («mi_size» ≤ 12) × (now widths ≡ bySize miWidthLog2) × (now heights ≡ bySize miHeightLog2) ⌝ }
+    ensures { λ r. ⌜ r ≡ cellFrom (now (levels .entry)) «mi_size» «tx_size» «uv_tx» skip «ref_frame» «y_mode» «segment_id» ⌝ }
 {
-    let raised = sb_size(true, mi_size);
+    let size = mi_size as usize;
+    let raised = sb_size(true, mi_size) as usize;
     let lvl = find_level(
         levels,
         segment_id as usize,
@@ -80,12 +93,12 @@ fn cell_unchecked(
         mode_to_mode_type(y_mode),
     );
     LfCell {
-        width0: mi_width_log2_unchecked(mi_size),
-        width1: mi_width_log2_unchecked(raised),
-        height0: mi_height_log2_unchecked(mi_size),
-        height1: mi_height_log2_unchecked(raised),
+        width0: widths[size],
+        width1: widths[raised],
+        height0: heights[size],
+        height1: heights[raised],
         tx: tx_size,
-        uvtx: get_uv_tx_size_unchecked(tx_size, mi_size, subx, suby),
+        uvtx: uv_tx,
         skipped: (skip == 1) & !is_intra(ref_frame),
         present: is_found(lvl),
         level: found_level(lvl),
@@ -95,8 +108,9 @@ fn cell_unchecked(
 // The word of a cell whose size and transform were tested, and of levels that were.
 fn word_unchecked(
     levels: &[u8; 64],
-    subx: bool,
-    suby: bool,
+    widths: &[u8; 13],
+    heights: &[u8; 13],
+    limits: &[u8; 13],
     mi_size: u8,
     tx_size: u8,
     skip: u8,
@@ -104,15 +118,17 @@ fn word_unchecked(
     y_mode: u8,
     segment_id: u8,
 ) -> u32
-    requires { ⌜ («mi_size» ≤ 12) × («tx_size» ≤ 3) × (found (badLevel (now levels)) 64 ≡ false) ⌝ }
-    ensures { λ r. ⌜ r ≡ packed (cellFrom (now (levels .entry)) subx suby «mi_size» «tx_size» skip «ref_frame» «y_mode» «segment_id») ⌝ }
+    requires { ⌜ («mi_size» ≤ 12) × («tx_size» ≤ 3) × (now widths ≡ bySize miWidthLog2) × (now heights ≡ bySize miHeightLog2) × (found (badLevel (now levels)) 64 ≡ false) ⌝ }
+    ensures { λ r. ⌜ r ≡ packed (cellFrom (now (levels .entry)) «mi_size» «tx_size» (min «tx_size» (getD (now (limits .entry)) «mi_size» 0)) skip «ref_frame» «y_mode» «segment_id») ⌝ }
 {
+    let uv_tx = uv_tx_unchecked(limits, tx_size, mi_size);
     let cell = cell_unchecked(
         levels,
-        subx,
-        suby,
+        widths,
+        heights,
         mi_size,
         tx_size,
+        uv_tx,
         skip,
         ref_frame,
         y_mode,
@@ -138,11 +154,15 @@ pub fn row_cells_unchecked(
     requires { ⌜ (found (badLevel (now levels)) 64 ≡ false) × (tooShort (modeInfo (now «mi_sizes») (now «tx_sizes») (now skips) (now «ref_frames») (now «y_modes») (now «segment_ids»)) (now cells) count ≡ false) × (found (badAt (modeInfo (now «mi_sizes») (now «tx_sizes») (now skips) (now «ref_frames») (now «y_modes») (now «segment_ids»))) count ≡ false) ⌝ }
     ensures { λ r. ⌜ now (cells .exit) ≡ filled (wordAt (modeInfo (now («mi_sizes» .entry)) (now («tx_sizes» .entry)) (now (skips .entry)) (now («ref_frames» .entry)) (now («y_modes» .entry)) (now («segment_ids» .entry))) (now (levels .entry)) subx suby) 0 count (now (cells .entry)) ⌝ }
 {
+    let widths = mi_width_log2_table();
+    let heights = mi_height_log2_table();
+    let limits = uv_limit_table(subx, suby);
     for k in 0..count {
         cells[k] = word_unchecked(
             levels,
-            subx,
-            suby,
+            &widths,
+            &heights,
+            &limits,
             mi_sizes[k],
             tx_sizes[k],
             skips[k],

@@ -5,18 +5,17 @@ use mathlib.Core.Path.{_≡_, sym, _∙_}
 use mathlib.Core.Bool.{false}
 use Prim.Native.Nat.{_≤_}
 use lib.Dec.{eqb, ltb}
-use native.Mathlib.Omega.{arith}
-use Rattle.blocks.specs.BlockSizes.{ssSize, uvTxSize}
+use Rattle.blocks.specs.BlockSizes.{ssSize, uvLimit}
 use Rattle.blocks.specs.BlockSizesLaws.{ss-size}
-use Rattle.blocks.proofs.residual.get_uv_tx_size_unchecked.Statement.{statement}
-use Rattle.blocks.proofs.residual.get_uv_tx_size_unchecked.Tie as tie
+use Rattle.blocks.proofs.residual.uv_limit_unchecked.Statement.{statement}
+use Rattle.blocks.proofs.residual.uv_limit_unchecked.Tie as tie
 
 returns : tie.Need-returns
-unfolding uvTxSize
+unfolding uvLimit
 returns c = rw (lt-ltb _ _ (c .if1 .taken))
 
 returns-2 : tie.Need-returns-2
-unfolding uvTxSize
+unfolding uvLimit
 returns-2 c =
     rw (le-ltb _ _ (c .before .before .if1 .left), eq-eqb _ _ (sym (c .before .ss-size-unchecked .ensures) ∙ c .if2 .taken))
 
@@ -38,24 +37,9 @@ module _ (c : tie.After-max-tx-size-unchecked) where
   valid = ne-eqb _ _ (λ h. at-if2 .if2 .left (at-if2 .before .ss-size-unchecked .ensures ∙ h))
 
 returns-3 : tie.Need-returns-3
-unfolding uvTxSize
+unfolding uvLimit
 returns-3 c =
-    let m = c .before in
-    rw (large m, valid m, sym (m .before .before .ss-size-unchecked .ensures), sym (m .max-tx-size-unchecked .ensures)) (omega arith)
+    rw (large c, valid c, sym (c .before .before .ss-size-unchecked .ensures), sym (c .max-tx-size-unchecked .ensures))
 
-returns-4 : tie.Need-returns-4
-unfolding uvTxSize
-returns-4 c =
-    let m = c .before in
-    rw (large m, valid m, sym (m .before .before .ss-size-unchecked .ensures), sym (m .max-tx-size-unchecked .ensures)) (omega arith)
-
-pub get-uv-tx-size-unchecked-spec : {M : Type 1} → statement M
-get-uv-tx-size-unchecked-spec =
-    tie.close
-    (tie.spec
-    returns
-    (search needs)
-    returns-2
-    (λ c κs. exists c)
-    returns-3
-    returns-4)
+pub uv-limit-unchecked-spec : {M : Type 1} → statement M
+uv-limit-unchecked-spec = tie.close (tie.spec returns (search needs) returns-2 (λ c κs. exists c) returns-3)
