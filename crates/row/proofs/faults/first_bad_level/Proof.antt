@@ -6,8 +6,8 @@ use lib.ListN.{getD}
 use borrow.Author.Tests.{lt-ltb, le-ltb}
 use Rattle.base.specs.First.{firstFrom, first, first-here, first-next, first-end}
 use Rattle.row.specs.Row.{badLevel}
-use Rattle.row.proofs.first_bad_level.Statement.{statement}
-use Rattle.row.proofs.first_bad_level.Tie as tie
+use Rattle.row.proofs.faults.first_bad_level.Statement.{statement}
+use Rattle.row.proofs.faults.first_bad_level.Tie as tie
 
 abbrev Inv-loop : tie.InvT-loop
 Inv-loop levels k₀ k = (k ≤ 64) × (firstFrom (badLevel levels) k (64 - k) ≡ first (badLevel levels) 64)

@@ -6,8 +6,8 @@ use native.Mathlib.Nat.{sub-self, sub-zero}
 use native.Mathlib.Omega.{arith}
 use Rattle.base.specs.First.{firstFrom, first, first-here, first-next, first-end}
 use Rattle.row.specs.Row.{badBlockAt}
-use Rattle.row.proofs.first_bad_block.Statement.{statement}
-use Rattle.row.proofs.first_bad_block.Tie as tie
+use Rattle.row.proofs.faults.first_bad_block.Statement.{statement}
+use Rattle.row.proofs.faults.first_bad_block.Tie as tie
 
 abbrev Inv-loop : tie.InvT-loop
 Inv-loop sizes txs skips count k₀ k =

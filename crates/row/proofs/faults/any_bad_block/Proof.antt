@@ -5,8 +5,8 @@ use Prim.Native.Nat.{ℕ, _-_, _≤_}
 use native.Mathlib.Omega.{arith}
 use Rattle.base.specs.First.{found, found-start, found-more}
 use Rattle.row.specs.Row.{badBlockAt}
-use Rattle.row.proofs.any_bad_block.Statement.{statement}
-use Rattle.row.proofs.any_bad_block.Tie as tie
+use Rattle.row.proofs.faults.any_bad_block.Statement.{statement}
+use Rattle.row.proofs.faults.any_bad_block.Tie as tie
 
 abbrev Inv-loop : tie.InvT-loop
 Inv-loop sizes txs skips count any₀ k₀ any k = (k ≤ count) × (any ≡ found (badBlockAt sizes txs skips) k)

@@ -8,8 +8,8 @@ use Rattle.blocks.specs.BlockSizesLaws.{by-size}
 use Rattle.blocks.specs.ModeInfo.{sbSize}
 use Rattle.blocks.specs.ModeInfoLaws.{sb-size-small}
 use Rattle.row.specs.Row.{cellFrom}
-use Rattle.row.proofs.cell_unchecked.Statement.{statement}
-use Rattle.row.proofs.cell_unchecked.Tie as tie
+use Rattle.row.proofs.word.cell_unchecked.Statement.{statement}
+use Rattle.row.proofs.word.cell_unchecked.Tie as tie
 
 -- the raised size is a block's too
 small : (c : tie.After-sb-size) → c .sb-size .result ≤ 12

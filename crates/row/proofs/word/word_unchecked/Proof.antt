@@ -3,8 +3,8 @@ use native.Mathlib.Omega.{arith}
 use Prim.Native.Nat.{ℕ, _≤_, min}
 use mir.Facts.{toZ-ofZ}
 use Rattle.row.specs.RowLaws.{cell-fits}
-use Rattle.row.proofs.word_unchecked.Statement.{statement}
-use Rattle.row.proofs.word_unchecked.Tie as tie
+use Rattle.row.proofs.word.word_unchecked.Statement.{statement}
+use Rattle.row.proofs.word.word_unchecked.Tie as tie
 
 lesser : (a b : ℕ) → a ≤ 3 → min a b ≤ 3
 lesser a b h = omega arith

@@ -4,8 +4,8 @@ use Prim.Native.Nat.{_-_, _≤_}
 use native.Mathlib.Omega.{arith}
 use Rattle.base.specs.First.{found, found-start, found-more}
 use Rattle.row.specs.Row.{badLevel}
-use Rattle.row.proofs.any_bad_level.Statement.{statement}
-use Rattle.row.proofs.any_bad_level.Tie as tie
+use Rattle.row.proofs.faults.any_bad_level.Statement.{statement}
+use Rattle.row.proofs.faults.any_bad_level.Tie as tie
 
 abbrev Inv-loop : tie.InvT-loop
 Inv-loop levels any₀ k₀ any k = (k ≤ 64) × (any ≡ found (badLevel levels) k)
