@@ -1,10 +1,6 @@
-pub mod Taps
 pub mod Masks
 pub mod NarrowFilter
 pub mod NarrowFilterLaws
-pub mod WideFilter
-pub mod WideSums
-pub mod WideFilterLaws
 pub mod MasksLaws
 pub mod SampleFiltering
 pub mod SampleFilteringLaws

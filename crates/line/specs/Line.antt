@@ -7,7 +7,7 @@ use lib.Dec.{leb, ltb}
 use Rattle.base.specs.Depth.{supported}
 use Rattle.base.specs.First.{refuseFirst}
 use Rattle.base.specs.Outcome.{Outcome, accepted, refuse, Returned}
-use Rattle.line.specs.Taps.{tap}
+use Rattle.wide_filter.specs.Taps.{tap}
 use Rattle.line.specs.SampleFiltering.{sampleFiltering}
 use Rattle.line.specs.declared.LineAnswer.{LineAnswer}
 use Rattle.line.specs.declared.LineAnswer.the-variants.{Done, Depth, Sample, Size}

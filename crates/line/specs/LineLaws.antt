@@ -12,7 +12,7 @@ use Rattle.base.specs.First.{first, found, found-none, first-small}
 use Rattle.base.specs.Outcome.{accepted, refused, refuse, returned}
 use Rattle.line.specs.Line.{reaches, line}
 use Rattle.line.specs.SampleFiltering.{sampleFiltering}
-use Rattle.line.specs.Taps.{tap, Within}
+use Rattle.wide_filter.specs.Taps.{tap, Within}
 
 module _ (depth size limit blimit thresh : ℕ) (t : List ℕ) where
   pub line-depth : supported depth ≡ false → line depth size limit blimit thresh t ≡ refused 2 0

@@ -5,7 +5,7 @@ use mathlib.Core.List.{List}
 use Prim.Native.Nat.{ℕ, _+_, _*_, _/_}
 use lib.Dec.{leb, ltb}
 use Rattle.base.specs.Notation.{absDiff}
-use Rattle.line.specs.Taps.{p, q}
+use Rattle.wide_filter.specs.Taps.{p, q}
 
 -- high edge variance
 unfoldable pub hevMask : (thresh : ℕ) (t : List ℕ) → Bool

@@ -5,7 +5,7 @@ use mathlib.Core.List.{List}
 use Prim.Native.Nat.{ℕ, _≤_, _<_}
 use native.Mathlib.Omega.{arith}
 use Rattle.line.specs.Masks.{hevMask, filterMask, flatAt, flatMask, flatMask2}
-use Rattle.line.specs.Taps.{Agree, agree-p, agree-q}
+use Rattle.wide_filter.specs.Taps.{Agree, agree-p, agree-q}
 
 module _ (r : ℕ) (t u : List ℕ) (a : Agree r t u) where
   pub hev-agree : (thresh : ℕ) → 2 ≤ r → hevMask thresh t ≡ hevMask thresh u

@@ -7,7 +7,7 @@ use lib.IntN.{ℤ, pos, negℤ, natAbs, _+ℤ_, _-ℤ_, _*ℤ_}
 use lib.ListN.{set}
 use Rattle.base.specs.Depth.{scaled}
 use Rattle.base.specs.Notation.{Clip3, asrZ, Round2Z}
-use Rattle.line.specs.Taps.{p, q}
+use Rattle.wide_filter.specs.Taps.{p, q}
 
 -- c( v ): v clipped to the numbers of B bits with a sign
 unfoldable pub c : (B : ℕ) (v : ℤ) → ℤ

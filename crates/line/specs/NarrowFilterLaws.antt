@@ -17,7 +17,7 @@ use Rattle.base.specs.Filled.{set-below, set-agree}
 use Rattle.base.specs.Notation.{Clip3}
 use Rattle.base.specs.NotationLaws.{mag-clip}
 use Rattle.line.specs.NarrowFilter.{c, offset, sample, narrowFilter}
-use Rattle.line.specs.Taps.{tap, Within, Agree, agree-p, agree-q}
+use Rattle.wide_filter.specs.Taps.{tap, Within, Agree, agree-p, agree-q}
 
 neg-small : (n m : ℕ) → 0 < n → n ≤ m → mag (negℤ (pos n)) < m
 neg-small (suc n) m p q = q

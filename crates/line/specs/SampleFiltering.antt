@@ -7,7 +7,7 @@ use lib.Dec.{eqb}
 use Rattle.base.specs.Depth.{scaled}
 use Rattle.line.specs.Masks.{hevMask, filterMask, flatMask, flatMask2}
 use Rattle.line.specs.NarrowFilter.{narrowFilter}
-use Rattle.line.specs.WideFilter.{wideFilter}
+use Rattle.wide_filter.specs.WideFilter.{wideFilter}
 
 unfoldable pub sampleFiltering : (B filterSize limit blimit thresh : ℕ) (t : List ℕ) → List ℕ
 sampleFiltering B filterSize limit blimit thresh t =

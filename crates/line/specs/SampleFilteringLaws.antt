@@ -14,9 +14,9 @@ use Rattle.line.specs.MasksLaws.{hev-agree, mask-agree, flat-agree, flat
 use Rattle.line.specs.NarrowFilter.{narrowFilter}
 use Rattle.line.specs.NarrowFilterLaws.{narrow-length, narrow-below, narrow-kept, narrow-agree}
 use Rattle.line.specs.SampleFiltering.{sampleFiltering}
-use Rattle.line.specs.Taps.{tap, Within, Agree}
-use Rattle.line.specs.WideFilter.{wideFilter}
-use Rattle.line.specs.WideFilterLaws.{wide-length, wide-below, wide-kept, wide-agree}
+use Rattle.wide_filter.specs.Taps.{tap, Within, Agree}
+use Rattle.wide_filter.specs.WideFilter.{wideFilter}
+use Rattle.wide_filter.specs.WideFilterLaws.{wide-length, wide-below, wide-kept, wide-agree}
 
 -- what a size is not
 from-1 : (size : ℕ) → eqb size 0 ≡ false → 1 ≤ size

@@ -11,8 +11,6 @@ ghost use Rattle.line.specs.Line.{reaches, line, returnedOf};
 mod depth;
 mod masks;
 mod narrow;
-mod taps;
-mod wide;
 
 use base::is_supported;
 use depth::scaled;
@@ -21,8 +19,8 @@ use masks::flat_mask;
 use masks::flat_mask2;
 use masks::hev_mask;
 use narrow::narrow_filter;
-use wide::wide_filter_fourteen;
-use wide::wide_filter_six;
+use wide_filter::wide_filter_fourteen;
+use wide_filter::wide_filter_six;
 
 // What became of a line: it was filtered, or refused.
 pub enum LineAnswer {

@@ -5,7 +5,7 @@ ghost use Prim.Native.Nat.{_+_, _*_, _/_, _<_};
 ghost use lib.Dec.{leb};
 ghost use Rattle.base.specs.Notation.{absDiff};
 ghost use Rattle.line.specs.Masks.{hevMask, filterMask, flatMask, flatMask2};
-use crate::taps::*;
+use wide_filter::taps::*;
 
 fn abs_diff(a: u16, b: u16) -> u32
     ensures { λ r. ⌜ (r ≡ absDiff a b) × (r < 65536) ⌝ }

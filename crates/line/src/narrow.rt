@@ -8,7 +8,7 @@ ghost use Rattle.base.specs.Depth.{supported};
 ghost use Rattle.base.specs.Notation.{Clip3, asrZ, Round2Z};
 ghost use Rattle.line.specs.NarrowFilter.{c, offset, signed, sample, narrowFilter};
 use crate::depth::scaled;
-use crate::taps::*;
+use wide_filter::taps::*;
 
 // 0x80 << (depth - 8), half the range of a sample.
 fn offset(depth: u8) -> i32

@@ -17,7 +17,7 @@ use Rattle.line.specs.Line.{line}
 use Rattle.line.specs.Masks.{hevMask, filterMask, flatAt, flatMask, flatMask2}
 use Rattle.line.specs.NarrowFilter.{c, sample, narrowFilter}
 use Rattle.line.specs.SampleFiltering.{sampleFiltering}
-use Rattle.line.specs.WideFilter.{sumTo, smoothed, wideFilter}
+use Rattle.wide_filter.specs.WideFilter.{sumTo, smoothed, wideFilter}
 use Rattle.strength.specs.Strength.{limitOf, strengthOf, strengthFor}
 use Rattle.strength.specs.declared.FilterStrength.{FilterStrength}
 use Rattle.levels.specs.declared.header.LoopFilterParams.{LoopFilterParams}

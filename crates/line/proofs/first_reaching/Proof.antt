@@ -5,7 +5,7 @@ use native.Mathlib.Omega.{arith}
 use borrow.Author.Tests.{le-leb, lt-leb}
 use Rattle.base.specs.First.{firstFrom, first, first-here, first-next, first-end}
 use Rattle.line.specs.Line.{reaches}
-use Rattle.line.specs.Taps.{tap}
+use Rattle.wide_filter.specs.Taps.{tap}
 use Rattle.line.proofs.first_reaching.Statement.{statement}
 use Rattle.line.proofs.first_reaching.Tie as tie
 

@@ -11,7 +11,7 @@ use denote.Ref.{now}
 use Rattle.base.specs.Machine.{read, Far, far-read, plus-fits, plus-read, minus-fits, minus-read}
 use Rattle.base.specs.Notation.{asrZ, Round2Z}
 use Rattle.line.specs.NarrowFilter.{c, signed, sample, narrowFilter}
-use Rattle.line.specs.Taps.{p, q}
+use Rattle.wide_filter.specs.Taps.{p, q}
 use Rattle.line.proofs.narrow.narrow_filter.Statement.{statement}
 use Rattle.line.proofs.narrow.narrow_filter.Tie as tie
 

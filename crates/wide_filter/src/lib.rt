@@ -1,8 +1,11 @@
 // The wide filter (8.8.5.3). Sums grow from the edge outwards, so that nothing is subtracted.
 ghost use mathlib.Core.Path.{_≡_};
-ghost use Rattle.line.specs.WideFilter.{wideFilter};
-ghost use Rattle.line.specs.WideSums.{six, fourteen};
-use crate::taps::*;
+ghost use Rattle.wide_filter.specs.WideFilter.{wideFilter};
+ghost use Rattle.wide_filter.specs.WideSums.{six, fourteen};
+
+pub mod taps;
+
+use taps::*;
 
 // The samples of one side that change, counted from the edge.
 struct Three {
@@ -78,7 +81,7 @@ fn side7(
 }
 
 // The six samples around the edge.
-pub(crate) fn wide_filter_six(t: &mut [u16; 16])
+pub fn wide_filter_six(t: &mut [u16; 16])
     ensures { λ r. ⌜ now (t .exit) ≡ wideFilter 3 (now (t .entry)) ⌝ }
 {
     let p3 = t[P3];
@@ -100,7 +103,7 @@ pub(crate) fn wide_filter_six(t: &mut [u16; 16])
 }
 
 // The fourteen samples around the edge.
-pub(crate) fn wide_filter_fourteen(t: &mut [u16; 16])
+pub fn wide_filter_fourteen(t: &mut [u16; 16])
     ensures { λ r. ⌜ now (t .exit) ≡ wideFilter 4 (now (t .entry)) ⌝ }
 {
     let p7 = t[P7];

@@ -8,8 +8,8 @@ use lib.IntN.{pos, negsuc}
 use lib.ListN.{set}
 use Rattle.base.specs.Filled.{filled}
 use Rattle.base.specs.Notation.{Clip3}
-use Rattle.line.specs.Taps.{tap, p, q}
-use Rattle.line.specs.WideFilter.{sumTo, smoothed, wideFilter}
+use Rattle.wide_filter.specs.Taps.{tap, p, q}
+use Rattle.wide_filter.specs.WideFilter.{sumTo, smoothed, wideFilter}
 
 -- x_0 + .. + x_m
 abbrev sum : List ℕ → ℕ → ℕ

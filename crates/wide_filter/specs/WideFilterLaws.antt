@@ -15,8 +15,8 @@ use borrow.Author.Tests.{eq-eqb, ne-eqb}
 use Rattle.base.specs.Filled.{length-filled, filled-other, filled-below, filled-agree}
 use Rattle.base.specs.Notation.{Clip3}
 use Rattle.base.specs.NotationLaws.{split, mag-clip}
-use Rattle.line.specs.Taps.{tap, F, Within, Agree, agree-less}
-use Rattle.line.specs.WideFilter.{reach, sumTo, smoothed, wideFilter}
+use Rattle.wide_filter.specs.Taps.{tap, F, Within, Agree, agree-less}
+use Rattle.wide_filter.specs.WideFilter.{reach, sumTo, smoothed, wideFilter}
 
 -- ---- the samples that a sum reads
 

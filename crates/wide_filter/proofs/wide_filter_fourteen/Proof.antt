@@ -1,8 +1,8 @@
 use lib.Dec.{lit<}
 use denote.Ref.{now}
-use Rattle.line.specs.WideSums.{wide-fourteen}
-use Rattle.line.proofs.wide.wide_filter_fourteen.Statement.{statement}
-use Rattle.line.proofs.wide.wide_filter_fourteen.Tie as tie
+use Rattle.wide_filter.specs.WideSums.{wide-fourteen}
+use Rattle.wide_filter.proofs.wide_filter_fourteen.Statement.{statement}
+use Rattle.wide_filter.proofs.wide_filter_fourteen.Tie as tie
 
 returns : tie.Need-returns
 returns c =

@@ -1,7 +1,7 @@
 use mathlib.Core.Path.{refl}
 use native.Mathlib.Omega.{arith}
-use Rattle.line.proofs.wide.side7.Statement.{statement}
-use Rattle.line.proofs.wide.side7.Tie as tie
+use Rattle.wide_filter.proofs.side7.Statement.{statement}
+use Rattle.wide_filter.proofs.side7.Tie as tie
 
 returns : tie.Need-returns
 returns c = (refl, refl, refl, refl, refl, refl, refl)

@@ -7,7 +7,7 @@ use lib.Dec.{eqb}
 use lib.IntN.{ℤ, pos, negsuc, _+ℤ_, _-ℤ_}
 use Rattle.base.specs.Filled.{filled}
 use Rattle.base.specs.Notation.{Clip3, Round2}
-use Rattle.line.specs.Taps.{F}
+use Rattle.wide_filter.specs.Taps.{F}
 
 -- n: how many samples change on each side
 abbrev pub reach : (log2Size : ℕ) → ℕ

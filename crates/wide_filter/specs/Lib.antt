@@ -1,0 +1,4 @@
+pub mod Taps
+pub mod WideFilter
+pub mod WideSums
+pub mod WideFilterLaws
