@@ -1,0 +1,119 @@
+-- Runs whose taps are all in the window: they need no clamps and no tests.
+-- Assumes nothing.
+use mathlib.Core.Path.{_≡_, refl, sym, ap, _∙_}
+use mathlib.Core.Bool.{Bool, true, _&&_}
+use mathlib.Core.List.{List}
+use Prim.Native.Nat.{ℕ, zero, suc, _+_, _-_, _*_, _≤_, _<_}
+use native.Mathlib.Nat.{mul-le-mul-right, add-mul}
+use native.Mathlib.Omega.{arith}
+use lib.Dec.{leb}
+use borrow.Author.Tests.{leb-true}
+use Rattle.geometry.specs.declared.Pass.{Pass}
+use Rattle.geometry.specs.declared.Pass.the-variants.{Vertical, Horizontal}
+use Rattle.window.specs.Stencil.{Stencil, applied, inTurn}
+use Rattle.window.specs.StencilLaws.{applied-same}
+use Rattle.window.specs.Window.{place, clamp, tapX, tapY, tapRead, tapStored, tapWritten, stencil, alongX, alongY, runOf}
+use Rattle.window.specs.WindowLaws.{Lent, Inside, place-lent, both, among-yes}
+use Rattle.window.specs.declared.WindowShape.{WindowShape}
+
+-- all taps of n positions from (x, y) on are in the window
+abbrev pub insideRun : WindowShape → Pass → (x y n : ℕ) → Bool
+insideRun g Vertical x y n = leb 8 x && leb (x + 8) (g .width) && leb (g .top) y && leb (y + n) (g .top + g .height)
+insideRun g Horizontal x y n = leb (x + n) (g .width) && leb (g .top + 8) y && leb (y + 8) (g .top + g .height)
+
+-- the place of p7 at (x, y), how far taps are apart, and how far positions
+abbrev pub firstTap : WindowShape → Pass → (x y : ℕ) → ℕ
+firstTap g Vertical x y = place g (x - 8) y
+firstTap g Horizontal x y = place g x (y - 8)
+
+abbrev pub tapStep : WindowShape → Pass → ℕ
+tapStep g Vertical = 1
+tapStep g Horizontal = g .stride
+
+abbrev pub alongStep : WindowShape → Pass → ℕ
+alongStep g Vertical = g .stride
+alongStep g Horizontal = 1
+
+-- 16 taps from a place on, all of them stored
+abbrev pub plain : (at step : ℕ) → (List ℕ → List ℕ) → Stencil
+plain at step line = record { reads = λ k. at + k * step; stored = λ k. true; writes = λ k. at + k * step; line = line }
+
+abbrev pub plainRun : (at step along : ℕ) → (List ℕ → List ℕ) → (k : ℕ) → Stencil
+plainRun at step along line k = plain (at + k * along) step line
+
+abbrev InsideRun : WindowShape → Pass → (x y n : ℕ) → Type 0
+InsideRun g Vertical x y n = (8 ≤ x) × (x + 8 ≤ g .width) × (g .top ≤ y) × (y + n ≤ g .top + g .height)
+InsideRun g Horizontal x y n = (x + n ≤ g .width) × (g .top + 8 ≤ y) × (y + 8 ≤ g .top + g .height)
+
+inside-run : (g : WindowShape) (pass : Pass) (x y n : ℕ) → insideRun g pass x y n ≡ true → InsideRun g pass x y n
+inside-run g Vertical x y n e =
+    let a = both (leb 8 x && leb (x + 8) (g .width) && leb (g .top) y) (leb (y + n) (g .top + g .height)) e in
+    let b = both (leb 8 x && leb (x + 8) (g .width)) (leb (g .top) y) (a .0) in
+    let c = both (leb 8 x) (leb (x + 8) (g .width)) (b .0) in
+    (leb-true _ _ (c .0), leb-true _ _ (c .1), leb-true _ _ (b .1), leb-true _ _ (a .1))
+inside-run g Horizontal x y n e =
+    let a = both (leb (x + n) (g .width) && leb (g .top + 8) y) (leb (y + 8) (g .top + g .height)) e in
+    let b = both (leb (x + n) (g .width)) (leb (g .top + 8) y) (a .0) in
+    (leb-true _ _ (b .0), leb-true _ _ (b .1), leb-true _ _ (a .1))
+
+-- k rows down
+rows-down : (g : WindowShape) (x y k : ℕ) → g .top ≤ y → place g x (y + k) ≡ place g x y + k * g .stride
+rows-down g x y k h =
+    let m : y + k - g .top ≡ (y - g .top) + k = omega arith in
+    ap (λ (n : ℕ). n * g .stride + x) m ∙ omega (arith, add-mul (y - g .top) k (g .stride))
+
+module _ (g : WindowShape) (x y n k j : ℕ) (l : k < n) (m : j < 16) where
+  -- tap j of position k of a run inside the window is at its own place
+  vertical-place : InsideRun g Vertical x y n → place g (x + j - 8) (y + k + 8 - 8) ≡ firstTap g Vertical x y + k * g .stride + j * 1
+  vertical-place h =
+      let a : x + j - 8 ≡ x - 8 + j = omega arith in
+      let b : y + k + 8 - 8 ≡ y + k = omega arith in
+      (λ i. place g (a i) (b i)) ∙ omega (arith, rows-down g (x - 8) y k (h .2))
+
+  horizontal-place : InsideRun g Horizontal x y n → place g (x + k + 8 - 8) (y + j - 8) ≡ firstTap g Horizontal x y + k * 1 + j * g .stride
+  horizontal-place h =
+      let a : x + k + 8 - 8 ≡ x + k = omega arith in
+      let b : y + j - 8 ≡ y - 8 + j = omega arith in
+      (λ i. place g (a i) (b i)) ∙ omega (arith, rows-down g x (y - 8) j (omega arith))
+
+  run-written : (pass : Pass) → InsideRun g pass x y n → tapWritten g pass (alongX pass x k) (alongY pass y k) j ≡ firstTap g pass x y + k * alongStep g pass + j * tapStep g pass
+  run-written Vertical h = vertical-place h
+  run-written Horizontal h = horizontal-place h
+
+  run-read : (pass : Pass) → InsideRun g pass x y n → tapRead g pass (alongX pass x k) (alongY pass y k) j ≡ firstTap g pass x y + k * alongStep g pass + j * tapStep g pass
+  run-read Vertical h =
+      let a : clamp 0 (g .width) (x + j - 8) ≡ x + j - 8 = omega arith in
+      let b : clamp (g .top) (g .height) (y + k + 8 - 8) ≡ y + k + 8 - 8 = omega arith in
+      (λ i. place g (a i) (b i)) ∙ vertical-place h
+  run-read Horizontal h =
+      let a : clamp 0 (g .width) (x + k + 8 - 8) ≡ x + k + 8 - 8 = omega arith in
+      let b : clamp (g .top) (g .height) (y + j - 8) ≡ y + j - 8 = omega arith in
+      (λ i. place g (a i) (b i)) ∙ horizontal-place h
+
+  run-stored : (pass : Pass) → InsideRun g pass x y n → tapStored g pass (alongX pass x k) (alongY pass y k) j ≡ true
+  run-stored Vertical h = rw (among-yes 8 (g .width) (x + j) (omega arith) (omega arith), among-yes (8 + g .top) (g .height) (y + k + 8) (omega arith) (omega arith))
+  run-stored Horizontal h = rw (among-yes 8 (g .width) (x + k + 8) (omega arith) (omega arith), among-yes (8 + g .top) (g .height) (y + j) (omega arith) (omega arith))
+
+in-turn-same : (f f′ : ℕ → Stencil) (n : ℕ) (w : List ℕ) → ((k : ℕ) → k < n → (u : List ℕ) → applied (f k) u ≡ applied (f′ k) u) → inTurn f n w ≡ inTurn f′ n w
+unfolding inTurn
+in-turn-same f f′ zero w h = refl
+in-turn-same f f′ (suc n) w h = h n (omega arith) (inTurn f n w) ∙ ap (applied (f′ n)) (in-turn-same f f′ n w (λ k l. h k (omega arith)))
+
+-- so the run needs no clamps and no tests
+pub run-plain : (g : WindowShape) (pass : Pass) (x y n : ℕ) (line : List ℕ → List ℕ) (w : List ℕ) → insideRun g pass x y n ≡ true
+    → inTurn (plainRun (firstTap g pass x y) (tapStep g pass) (alongStep g pass) line) n w ≡ inTurn (runOf g pass x y line) n w
+run-plain g pass x y n line w e =
+    let h = inside-run g pass x y n e in
+    in-turn-same _ _ n w (λ k l u. applied-same _ (runOf g pass x y line k) u refl
+    (λ j m. sym (run-read g x y n k j l m pass h)) (λ j m. sym (run-stored g x y n k j l m pass h)) (λ j m. sym (run-written g x y n k j l m pass h)))
+
+-- and its samples are lent: tap j of position k
+pub run-lent : (g : WindowShape) (lent : ℕ) (pass : Pass) (x y n k j : ℕ) → Lent g lent → insideRun g pass x y n ≡ true → k < n → j < 16 → firstTap g pass x y + k * alongStep g pass + j * tapStep g pass < lent
+run-lent g lent Vertical x y n k j s e l m =
+    let h = inside-run g Vertical x y n e in
+    let p = place-lent g lent (x - 8 + j) (y + k) s (record { right = omega arith; above = omega arith; below = omega arith }) in
+    omega (arith, rows-down g (x - 8 + j) y k (h .2))
+run-lent g lent Horizontal x y n k j s e l m =
+    let h = inside-run g Horizontal x y n e in
+    let p = place-lent g lent (x + k) (y - 8 + j) s (record { right = omega arith; above = omega arith; below = omega arith }) in
+    omega (arith, rows-down g (x + k) (y - 8) j (omega arith))
