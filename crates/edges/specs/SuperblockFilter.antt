@@ -1,5 +1,5 @@
--- 8.8.2: one position of a superblock, plane and pass, steps 1 to 14; steps 7 and 9 are in ModeInfo of the crate blocks. A superblock
--- has the subsampling that holds in its plane.
+-- 8.8.2: one position of a superblock, plane and pass, steps 1 to 14 and the place of step 17; steps 7 and 9 are in ModeInfo of the
+-- crate blocks. A superblock has the subsampling that holds in its plane.
 -- Assumes nothing.
 use mathlib.Core.Bool.{Bool, false, not, _&&_, _||_}
 use Prim.Native.Nat.{ℕ, _+_, _*_, _/_, _%_, _^_, _≤_, _<_}
@@ -82,3 +82,10 @@ onScreen s pass x y = not (leb (8 * s .cols) x || leb (8 * s .rows) y || atBorde
 -- step 14. Document 01 calls such a position decided.
 unfoldable pub applyFilter : (onScreen isBlockEdge isTxEdge isIntra skip : Bool) → Bool
 applyFilter onScreen isBlockEdge isTxEdge isIntra skip = onScreen && (isBlockEdge || isTxEdge && (isIntra || not skip))
+
+-- step 17 filters at plane position (x >> subX, y >> subY)
+unfoldable pub planeX : Superblock → Pass → (edge i : ℕ) → ℕ
+planeX s pass edge i = shr (lumaX s pass edge i) (s .subx)
+
+unfoldable pub planeY : Superblock → Pass → (edge i : ℕ) → ℕ
+planeY s pass edge i = shr (lumaY s pass edge i) (s .suby)

@@ -64,7 +64,7 @@ fn halved(n: usize, sub: bool) -> usize
     if sub { n / 2 } else { n }
 }
 
-fn luma_x(s: Superblock, pass: Pass, edge: usize, i: usize) -> Luma
+pub(crate) fn luma_x(s: Superblock, pass: Pass, edge: usize, i: usize) -> Luma
     requires { ⌜ Placed s × (edge < 16) × (i < 64) ⌝ }
     ensures { λ r. ⌜ (r .0 ≡ lumaX s pass edge i) × (r .0 < 65792) ⌝ }
 {
@@ -74,7 +74,7 @@ fn luma_x(s: Superblock, pass: Pass, edge: usize, i: usize) -> Luma
     }
 }
 
-fn luma_y(s: Superblock, pass: Pass, edge: usize, i: usize) -> Luma
+pub(crate) fn luma_y(s: Superblock, pass: Pass, edge: usize, i: usize) -> Luma
     requires { ⌜ Placed s × (edge < 16) × (i < 64) ⌝ }
     ensures { λ r. ⌜ (r .0 ≡ lumaY s pass edge i) × (r .0 < 65792) ⌝ }
 {
@@ -85,7 +85,7 @@ fn luma_y(s: Superblock, pass: Pass, edge: usize, i: usize) -> Luma
 }
 
 // A cell's column or row, on the subsampling grid.
-fn loop_cell(at: Luma, sub: bool) -> usize
+pub(crate) fn loop_cell(at: Luma, sub: bool) -> usize
     requires { ⌜ at .0 < 65792 ⌝ }
     ensures { λ r. ⌜ r ≡ loopCell sub (at .0) ⌝ }
 {
@@ -108,12 +108,12 @@ fn is_block_edge(s: Superblock, pass: Pass, x: Luma, y: Luma, mi_size: u8) -> bo
     }
 }
 
-// 2 to the power of a transform.
-fn edges_of_transform(tx_sz: u8) -> usize
-    requires { ⌜ «tx_sz» ≤ 3 ⌝ }
-    ensures { λ r. ⌜ (r ≡ 2 ^ «tx_sz») × (0 < r) ⌝ }
+// 2 to the power of a transform, or of a logarithm.
+pub(crate) fn two_to(n: u8) -> usize
+    requires { ⌜ n ≤ 3 ⌝ }
+    ensures { λ r. ⌜ (r ≡ 2 ^ n) × (0 < r) × (r ≤ 8) ⌝ }
 {
-    match tx_sz {
+    match n {
         0 => 1,
         1 => 2,
         2 => 4,
@@ -133,15 +133,15 @@ fn last_column(s: Superblock, pass: Pass, edge: usize, x: Luma) -> bool
     }
 }
 
-fn is_tx_edge(s: Superblock, pass: Pass, edge: usize, x: Luma, tx_sz: u8) -> bool
+pub(crate) fn is_tx_edge(s: Superblock, pass: Pass, edge: usize, x: Luma, tx_sz: u8) -> bool
     requires { ⌜ Placed s × (x .0 < 65792) × («tx_sz» ≤ 3) ⌝ }
     ensures { λ r. ⌜ r ≡ isTxEdge s pass edge (x .0) «tx_sz» ⌝ }
 {
-    let apart = edges_of_transform(tx_sz);
+    let apart = two_to(tx_sz);
     !last_column(s, pass, edge, x) & (edge % apart == 0)
 }
 
-fn is_32_edge(edge: usize) -> bool
+pub(crate) fn is_32_edge(edge: usize) -> bool
     ensures { λ r. ⌜ r ≡ is32Edge edge ⌝ }
 {
     edge % 8 == 0
@@ -156,14 +156,14 @@ fn at_border(pass: Pass, x: Luma, y: Luma) -> bool
     }
 }
 
-fn on_screen(s: Superblock, pass: Pass, x: Luma, y: Luma) -> bool
+pub(crate) fn on_screen(s: Superblock, pass: Pass, x: Luma, y: Luma) -> bool
     requires { ⌜ Placed s ⌝ }
     ensures { λ r. ⌜ r ≡ onScreen s pass (x .0) (y .0) ⌝ }
 {
     !((8 * s.cols <= x.0) | (8 * s.rows <= y.0) | at_border(pass, x, y))
 }
 
-fn apply_filter(screen: bool, block: bool, transform: bool, intra: bool, skip: bool) -> bool
+pub(crate) fn apply_filter(screen: bool, block: bool, transform: bool, intra: bool, skip: bool) -> bool
     ensures { λ r. ⌜ r ≡ applyFilter screen block transform intra skip ⌝ }
 {
     screen & (block | transform & (intra | !skip))
@@ -202,7 +202,7 @@ pub fn superblock_filter_edge_unchecked(
     }
 }
 
-fn edge_count(s: Superblock, pass: Pass) -> usize
+pub fn edge_count(s: Superblock, pass: Pass) -> usize
     ensures { λ r. ⌜ (r ≡ edgeCount s pass) × (r ≤ 16) ⌝ }
 {
     match pass {
@@ -211,7 +211,7 @@ fn edge_count(s: Superblock, pass: Pass) -> usize
     }
 }
 
-fn edge_len(s: Superblock, pass: Pass) -> usize
+pub fn edge_len(s: Superblock, pass: Pass) -> usize
     ensures { λ r. ⌜ (r ≡ edgeLen s pass) × (r ≤ 64) ⌝ }
 {
     match pass {
@@ -220,7 +220,7 @@ fn edge_len(s: Superblock, pass: Pass) -> usize
     }
 }
 
-fn pass_of(pass: u8) -> Pass
+pub fn pass_of(pass: u8) -> Pass
     ensures { λ r. ⌜ r ≡ passOf pass ⌝ }
 {
     if pass == 0 {

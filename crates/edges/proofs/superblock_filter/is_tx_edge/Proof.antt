@@ -5,7 +5,7 @@ use Rattle.edges.proofs.superblock_filter.is_tx_edge.Tie as tie
 
 returns : tie.Need-returns
 unfolding isTxEdge
-returns c = rw (c .last-column .ensures, c .before .edges-of-transform .ensures .0)
+returns c = rw (c .last-column .ensures, c .before .two-to .ensures .0)
 
 pub is-tx-edge-spec : {M : Type 1} → statement M
 is-tx-edge-spec =

@@ -1,7 +1,7 @@
 use mathlib.Core.Path.{_≡_}
 use native.Mathlib.Omega.{arith}
-use Rattle.edges.proofs.superblock_filter.edges_of_transform.Statement.{statement}
-use Rattle.edges.proofs.superblock_filter.edges_of_transform.Tie as tie
+use Rattle.edges.proofs.superblock_filter.two_to.Statement.{statement}
+use Rattle.edges.proofs.superblock_filter.two_to.Tie as tie
 
 returns : tie.Need-returns
 returns c = (rw (c .match .keys1), omega arith)
@@ -15,5 +15,5 @@ returns-3 c = (rw (c .match .keys3), omega arith)
 returns-4 : tie.Need-returns-4
 returns-4 c = let three : c .before .args .tx-sz ≡ 3 = omega arith in (rw three, omega arith)
 
-pub edges-of-transform-spec : {M : Type 1} → statement M
-edges-of-transform-spec = tie.close (tie.spec returns returns-2 returns-3 returns-4)
+pub two-to-spec : {M : Type 1} → statement M
+two-to-spec = tie.close (tie.spec returns returns-2 returns-3 returns-4)
