@@ -163,7 +163,13 @@ pub(crate) fn on_screen(s: Superblock, pass: Pass, x: Luma, y: Luma) -> bool
     !((8 * s.cols <= x.0) | (8 * s.rows <= y.0) | at_border(pass, x, y))
 }
 
-pub(crate) fn apply_filter(screen: bool, block: bool, transform: bool, intra: bool, skip: bool) -> bool
+pub(crate) fn apply_filter(
+    screen: bool,
+    block: bool,
+    transform: bool,
+    intra: bool,
+    skip: bool,
+) -> bool
     ensures { λ r. ⌜ r ≡ applyFilter screen block transform intra skip ⌝ }
 {
     screen & (block | transform & (intra | !skip))

@@ -19,8 +19,11 @@ badWindow g lent =
     || ltb lent ((g .height - 1) * g .stride + g .width)
 
 -- 13: the window's sample at row k / width and column k % width is not below the bound
+abbrev pub reaches : (bound : ℕ) (samples : List ℕ) (start k : ℕ) → Bool
+reaches bound samples start k = leb bound (getD samples (start + k) 0)
+
 unfoldable pub badSample : WindowShape → (bound : ℕ) (samples : List ℕ) (k : ℕ) → Bool
-badSample g bound samples k = leb bound (getD samples (k / g .width * g .stride + k % g .width) 0)
+badSample g bound samples k = reaches bound samples (k / g .width * g .stride) (k % g .width)
 
 -- the place in the lent list of the plane's sample (x, y)
 abbrev pub place : WindowShape → (x y : ℕ) → ℕ

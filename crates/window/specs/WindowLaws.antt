@@ -6,8 +6,8 @@ use Prim.Native.Nat.{ℕ, _+_, _-_, _*_, _≤_, _<_}
 use native.Mathlib.Nat.{suc-mul, mul-le-mul-right, mul-le-mul-left}
 use native.Mathlib.Decide.{decLt}
 use native.Mathlib.Omega.{arith}
-use lib.Dec.{eqb, leb, ltb}
-use borrow.Author.Tests.{ltb-false, eqb-false, leb-true, ltb-true, lt-ltb, le-leb}
+use lib.Dec.{T, eqb, leb, ltb}
+use borrow.Author.Tests.{ltb-false, eqb-false, leb-true, ltb-true, lt-ltb, le-ltb, le-leb, ne-eqb}
 use Rattle.base.specs.Tests.{neither}
 use Rattle.window.specs.Window.{badWindow, place, clamp, among}
 use Rattle.window.specs.declared.WindowShape.{WindowShape}
@@ -47,6 +47,52 @@ lent g n e =
       rows = ltb-false (g .stride) (g .width) (t4 .1);
       far = ltb-false 131072 (g .stride) (t5 .1);
       room = ltb-false n ((g .height - 1) * g .stride + g .width) (t6 .1);
+    }
+
+-- numbers from which the samples cannot be counted: test 12 holds
+abbrev pub uncountable : WindowShape → Bool
+uncountable g = eqb (g .height) 0 || ltb 65536 (g .width) || ltb 65536 (g .height) || ltb 65536 (g .top) || ltb 131072 (g .stride)
+
+countable : (g : WindowShape) (n : ℕ) → Lent g n → uncountable g ≡ false
+countable g n w =
+    rw (
+      ne-eqb (g .height) 0 (λ e. omega (arith, w .tall)),
+      le-ltb 65536 (g .width) (w .right),
+      le-ltb 65536 (g .height) (omega (arith, w .bottom)),
+      le-ltb 65536 (g .top) (omega (arith, w .bottom)),
+      le-ltb 131072 (g .stride) (w .far),
+    )
+
+pub bad-uncountable : (g : WindowShape) (n : ℕ) → uncountable g ≡ true → true ≡ badWindow g n
+bad-uncountable g n e = cases (badWindow g n) refl
+  where
+    cases : (b : Bool) → badWindow g n ≡ b → true ≡ badWindow g n
+    cases true d = sym d
+    cases false d = absurd (subst T (sym e ∙ countable g n (lent g n d)) tt)
+
+pub record Countable (g : WindowShape) : Type 0 where
+  pub tall : 0 < g .height
+  pub width : g .width ≤ 65536
+  pub height : g .height ≤ 65536
+  pub top : g .top ≤ 65536
+  pub stride : g .stride ≤ 131072
+
+pub counted : (g : WindowShape) → uncountable g ≡ false → Countable g
+counted g e =
+    let h0 : Bool = eqb (g .height) 0 in
+    let w1 : Bool = ltb 65536 (g .width) in
+    let h1 : Bool = ltb 65536 (g .height) in
+    let t4 = neither (h0 || w1 || h1 || ltb 65536 (g .top)) e in
+    let t3 = neither (h0 || w1 || h1) (t4 .0) in
+    let t2 = neither (h0 || w1) (t3 .0) in
+    let t1 = neither h0 (t2 .0) in
+    let tall = eqb-false (g .height) 0 (t1 .0) in
+    record {
+      tall = omega arith;
+      width = ltb-false 65536 (g .width) (t1 .1);
+      height = ltb-false 65536 (g .height) (t2 .1);
+      top = ltb-false 65536 (g .top) (t3 .1);
+      stride = ltb-false 131072 (g .stride) (t4 .1);
     }
 
 -- the plane's sample (x, y) is in the window
