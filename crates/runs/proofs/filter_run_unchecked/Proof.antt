@@ -1,0 +1,49 @@
+use borrow.Author.Needs.{needs}
+use mathlib.Core.Path.{_≡_, sym, _∙_}
+use mathlib.Core.Bool.{true}
+use Rattle.line.specs.SampleFiltering.{sampleFiltering}
+use Rattle.window.specs.InsideRun.{insideRun, run-plain, run-lent}
+use Rattle.runs.specs.RunsLaws.{inside-near}
+use Rattle.runs.proofs.filter_run_unchecked.Statement.{statement}
+use Rattle.runs.proofs.filter_run_unchecked.Tie as tie
+
+inside : (c : tie.Then1) → let a = c .before .before .before .args in insideRun (a .g) (a .pass) (a .x .0) (a .y .0) (a .n) ≡ true
+inside c = sym (c .before .is-inside .ensures) ∙ c .if1 .taken
+
+first-tap-requires : tie.Need-first-tap-requires
+first-tap-requires c κs =
+    let s = c .before .before .before in
+    let a = s .args in
+    (inside-near (a .g) (a .pass) (a .x .0) (a .y .0) (a .n) (inside c), s .pre .1, s .pre .2, s .pre .0 .far)
+
+filter-inside-requires : tie.Need-filter-inside-requires
+filter-inside-requires c κs =
+    let first = c .before .before .before in
+    let s = first .before .before .before .before in
+    let a = s .args in
+    rw (first .first-tap .ensures, c .before .tap-step .ensures, c .along-step .ensures)
+    (record { tap = λ k j l m. run-lent (a .g) _ (a .pass) (a .x .0) (a .y .0) (a .n) k j (s .pre .0) (inside (first .before)) l m }, s .pre .4)
+
+returns : tie.Need-returns
+returns c =
+    let along = c .before .before .before in
+    let step = along .before in
+    let first = step .before .before in
+    let a = first .before .before .before .before .args in
+    (rw (first .first-tap .ensures, step .tap-step .ensures, along .along-step .ensures) at (c .before .before .filter-inside .ensures))
+    ∙ run-plain (a .g) (a .pass) (a .x .0) (a .y .0) (a .n) (sampleFiltering (a .depth) (a .size) (a .strength .limit) (a .strength .blimit) (a .strength .thresh)) (a .samples .now) (inside (first .before))
+
+pub filter-run-unchecked-spec : {M : Type 1} → statement M
+filter-run-unchecked-spec =
+    tie.close
+    (tie.spec
+    (search needs)
+    first-tap-requires
+    (search needs)
+    (search needs)
+    filter-inside-requires
+    (λ c κs. c .before .before .before .before .pre)
+    (search needs)
+    returns
+    (search needs)
+    (λ c. c .before .before .filter-border .ensures))
