@@ -1,6 +1,6 @@
 -- A packed cell: document 01's word of 32 bits for what the pass reads of a cell.
 -- Assumes nothing.
-use mathlib.Core.Bool.{Bool, cond}
+use mathlib.Core.Bool.{Bool, cond, not, _&&_, _||_}
 use Prim.Native.Nat.{ℕ, _+_, _*_, _/_, _%_, _^_, _<_}
 use lib.Dec.{eqb}
 use Rattle.cells.specs.declared.LfCell.{LfCell}
@@ -39,6 +39,10 @@ heightLog2 c sub = cond sub (c .height1) (c .height0)
 
 abbrev pub txOf : LfCell → (chroma : Bool) → ℕ
 txOf c chroma = cond chroma (c .uvtx) (c .tx)
+
+-- 11: a zero bit is set, or the level is not 0 while it is absent
+unfoldable pub badWord : ℕ → Bool
+badWord w = not (eqb (w % 2 ^ 12) 0) || not (cellOf w .present) && not (eqb (cellOf w .level) 0)
 
 -- fields that fit their bits
 pub record Fields (c : LfCell) : Type 0 where

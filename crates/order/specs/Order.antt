@@ -4,7 +4,7 @@
 use mathlib.Core.Path.{_≡_, refl, sym, ap, _∙_}
 use mathlib.Core.Logic.{_⊎_, inl, inr}
 use mathlib.Core.Option.{some}
-use mathlib.Core.List.{List, [], _∷_, _++_, List·Memᴰ, List·Memᴰ·head, List·Memᴰ·tail, List·Memᴰ·cases-cons, List·Memᴰ·not-nil, Memᴰ·cast}
+use mathlib.Core.List.{List, [], _∷_, List·Memᴰ, List·Memᴰ·head, List·Memᴰ·tail, List·Memᴰ·cases-cons, List·Memᴰ·not-nil, Memᴰ·cast}
 use Prim.Native.Nat.{ℕ, zero, suc, _<_, suc-le-suc}
 use native.Mathlib.Nat.{le-of-suc-le-suc, not-suc-le-zero, zero-lt-suc}
 use native.Mathlib.Omega.{arith}
@@ -88,10 +88,6 @@ module _ {A : Type 0} where
 abbrev pub run : {A S : Type 0} → (A → S → S) → List A → S → S
 run step [] s = s
 run step (a ∷ l) s = run step l (step a s)
-
-pub run-append : {A S : Type 0} (step : A → S → S) (l m : List A) (s : S) → run step (l ++ m) s ≡ run step m (run step l s)
-run-append step [] m s = refl
-run-append step (a ∷ l) m s = run-append step l m (step a s)
 
 module _ {A S : Type 0} (step : A → S → S) where
   -- the steps of a and b can be exchanged

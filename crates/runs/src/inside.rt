@@ -54,7 +54,7 @@ fn filter_position(
     store(samples, at, step, &t);
 }
 
-// p7 of the first position is at a place; taps are a step apart, positions a step along.
+// n positions: p7 of the first is at the place at, taps are step apart and positions along.
 pub(crate) fn filter_inside(
     samples: &mut [u16],
     at: usize,

@@ -1,0 +1,3 @@
+pub mod Pass
+pub mod PassLaws
+pub mod OrderOfWork

@@ -1,0 +1,107 @@
+-- One pass over one superblock of a plane: 8.8.2 with packed cells for mode info, and document 01's rules at the window's border.
+-- Assumes nothing.
+use mathlib.Core.Bool.{Bool, cond, not, _&&_, _||_}
+use mathlib.Core.List.{List}
+use Prim.Native.Nat.{ℕ, _*_, _^_}
+use lib.Dec.{eqb, ltb}
+use lib.ListN.{length, getD}
+use Rattle.base.specs.Depth.{supported}
+use Rattle.base.specs.First.{refuseFirst}
+use Rattle.base.specs.Outcome.{Outcome, accepted, refuse, Returned}
+use Rattle.cells.specs.Cell.{badWord}
+use Rattle.edges.specs.Decision.{decision, levelless}
+use Rattle.edges.specs.Edge.{passOf}
+use Rattle.edges.specs.SuperblockFilter.{edgeCount, edgeLen, planeX, planeY}
+use Rattle.edges.specs.declared.decision.Decision.{Decision}
+use Rattle.geometry.specs.Frame.{badSubsampling, badFrameSize, badStart, cellsFrom}
+use Rattle.geometry.specs.declared.Pass.{Pass}
+use Rattle.geometry.specs.declared.Superblock.{Superblock}
+use Rattle.line.specs.SampleFiltering.{sampleFiltering}
+use Rattle.order.specs.Grid.{select, grid}
+use Rattle.order.specs.Order.{run}
+use Rattle.strength.specs.Strength.{strengthOf}
+use Rattle.window.specs.Stencil.{applied}
+use Rattle.window.specs.Window.{badWindow, badSample, stencil}
+use Rattle.window.specs.declared.WindowShape.{WindowShape}
+
+-- A position of a pass: i along an edge.
+pub record Position : Type 0 where
+  pub edge : ℕ
+  pub i : ℕ
+
+abbrev pub position : (edge i : ℕ) → Position
+position edge i = record { edge = edge; i = i }
+
+-- What a pass is given beside its direction and its window: a superblock, with the subsampling that holds in the plane; whether the
+-- plane is one of chroma; sharpness and depth; and the words of the superblock row's cells.
+pub record Setting : Type 0 where
+  pub superblock : Superblock
+  pub chroma : Bool
+  pub sharpness : ℕ
+  pub depth : ℕ
+  pub cells : List ℕ
+
+abbrev pub setting : Superblock → (chroma : Bool) (sharpness depth : ℕ) (cells : List ℕ) → Setting
+setting s chroma sharpness depth cells = record { superblock = s; chroma = chroma; sharpness = sharpness; depth = depth; cells = cells }
+
+-- steps 1 to 16 at a position
+abbrev pub decisionAt : Setting → Pass → Position → Decision
+decisionAt t pass p = decision (t .superblock) pass (t .chroma) (t .cells) (p .edge) (p .i)
+
+-- document 01's decided positions, edge and i rising
+unfoldable pub isDecided : Setting → Pass → Position → Bool
+isDecided t pass p = decisionAt t pass p .decided
+
+unfoldable pub decided : Setting → Pass → List Position
+decided t pass = select (isDecided t pass) (grid position (edgeCount (t .superblock) pass) (edgeLen (t .superblock) pass))
+
+-- the sample filtering process with the size and the strength of a decision
+unfoldable pub lineOf : Setting → Decision → List ℕ → List ℕ
+lineOf t d =
+    let strength = strengthOf (d .level) (t .sharpness) in
+    sampleFiltering (t .depth) (d .size) (strength .limit) (strength .blimit) (strength .thresh)
+
+-- level 0 filters nothing
+abbrev pub filters : Decision → Bool
+filters d = ltb 0 (d .level)
+
+-- step 17 at a position, on the samples as they stand
+unfoldable pub step : WindowShape → Setting → Pass → Position → List ℕ → List ℕ
+step g t pass p samples =
+    let s = t .superblock in
+    let d = decisionAt t pass p in
+    applied (stencil g pass (planeX s pass (p .edge) (p .i)) (planeY s pass (p .edge) (p .i)) (filters d) (lineOf t d)) samples
+
+-- THE PASS: the steps of the decided positions, in their order
+unfoldable pub superblockLoopFilter : WindowShape → Setting → Pass → List ℕ → List ℕ
+superblockLoopFilter g t pass samples = run (step g t pass) (decided t pass) samples
+
+-- plane 0 counts as not subsampled
+abbrev pub settingOf : (sharpness depth subX subY miCols miRows row col plane : ℕ) (cells : List ℕ) → Setting
+settingOf sharpness depth subX subY miCols miRows row col plane cells =
+    let chroma = ltb 0 plane in
+    let s : Superblock = record { subx = chroma && eqb subX 1; suby = chroma && eqb subY 1; cols = miCols; rows = miRows; row = row; col = col } in
+    setting s chroma sharpness depth cells
+
+-- 11 at cell k
+abbrev pub badCell : (cells : List ℕ) (k : ℕ) → Bool
+badCell cells k = badWord (getD cells k 0)
+
+-- the operation with document 01's refusals
+unfoldable pub superblockLoopFilterCells : WindowShape → (sharpness depth subX subY miCols miRows row col plane pass : ℕ) (cells samples : List ℕ) → Outcome (List ℕ)
+superblockLoopFilterCells g sharpness depth subX subY miCols miRows row col plane pass cells samples =
+    let t = settingOf sharpness depth subX subY miCols miRows row col plane cells in
+    let n = cellsFrom row miCols miRows in
+    refuse (ltb 7 sharpness) 1 0
+    (refuse (not (supported depth)) 2 0
+    (refuse (badSubsampling subX subY) 3 0
+    (refuse (badFrameSize miCols miRows) 4 0
+    (refuse (badStart row miRows) 5 0
+    (refuse (ltb (length cells) n) 7 0
+    (refuse (ltb 2 plane || ltb 1 pass) 9 0
+    (refuse (badStart col miCols) 10 0
+    (refuseFirst (badCell cells) n 11
+    (refuse (badWindow g (length samples)) 12 0
+    (refuseFirst (badSample g (2 ^ depth) samples) (g .height * g .width) 13
+    (refuseFirst (levelless (t .superblock) (passOf pass) (t .chroma) cells) (64 * edgeCount (t .superblock) (passOf pass)) 14
+    (accepted (superblockLoopFilter g t (passOf pass) samples)))))))))))))

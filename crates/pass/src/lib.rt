@@ -1,0 +1,1 @@
+// One pass over one superblock of a plane.

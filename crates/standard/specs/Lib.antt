@@ -1,0 +1,2 @@
+pub mod StandardPass
+pub mod PassStandard

@@ -1,0 +1,1 @@
+// The tie of the pass to the standard, in specs/. There is no code here.
