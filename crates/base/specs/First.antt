@@ -4,7 +4,7 @@ use mathlib.Core.Path.{_≡_, refl, sym, _∙_, subst}
 use mathlib.Core.Logic.{_⊎_, inl, inr, ⊎-elim}
 use mathlib.Core.Bool.{Bool, true, false, cond, _||_}
 use Prim.Native.Nat.{ℕ, zero, suc, _+_, _-_, _≤_, _<_}
-use native.Mathlib.Nat.{eq-or-lt-of-le, le-of-suc-le-suc, not-suc-le-zero}
+use native.Mathlib.Nat.{add-zero, add-suc, eq-or-lt-of-le, le-of-suc-le-suc, not-suc-le-zero}
 use native.Mathlib.Numerals.{add-one}
 use native.Mathlib.Omega.{arith}
 use lib.Dec.{T}
@@ -89,6 +89,12 @@ first-here test k n p e = let s : n - k ≡ suc (n - (k + 1)) = omega arith in r
 pub first-next : (test : ℕ → Bool) (k n : ℕ) → k < n → test k ≡ false → firstFrom test k (n - k) ≡ firstFrom test (k + 1) (n - (k + 1))
 unfolding firstFrom
 first-next test k n p e = let s : n - k ≡ suc (n - (k + 1)) = omega arith in rw (s, e)
+
+-- or passes over m places at which the test does not hold
+pub first-skip : (test : ℕ → Bool) (k m n : ℕ) → k + m ≤ n → ((j : ℕ) → j < m → test (k + j) ≡ false) → firstFrom test k (n - k) ≡ firstFrom test (k + m) (n - (k + m))
+first-skip test k zero n p h = rw (add-zero k)
+first-skip test k (suc m) n p h =
+    first-skip test k m n (omega arith) (λ j q. h j (omega arith)) ∙ (rw (add-one (k + m), ← add-suc k m) at (first-next test (k + m) n (omega arith) (h m (omega arith))))
 
 pub first-end : (test : ℕ → Bool) (n : ℕ) → firstFrom test n 0 ≡ n
 unfolding firstFrom
