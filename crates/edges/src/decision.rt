@@ -1,14 +1,16 @@
 // What is decided of a position by the cells of the superblock row.
 ghost use mathlib.Core.Path.{_≡_};
-ghost use mathlib.Core.Bool.{true};
-ghost use Prim.Native.Nat.{_*_, _^_, _≤_, _<_};
+ghost use mathlib.Core.Bool.{true, cond};
+ghost use Prim.Native.Nat.{ℕ, _+_, _-_, _*_, _^_, _≤_, _<_};
 ghost use lib.ListN.{length};
 ghost use Rattle.base.specs.First.{first};
-ghost use Rattle.cells.specs.Cell.{widthLog2, heightLog2, txOf, Fields};
+ghost use Rattle.cells.specs.Cell.{widthLog2, heightLog2, Fields};
 ghost use Rattle.geometry.specs.Frame.{cellsFrom};
-ghost use Rattle.edges.specs.SuperblockFilter.{Placed, sub, edgeCount, edgeLen, lumaX, lumaY, isBlockEdge, onScreen};
-ghost use Rattle.edges.specs.Decision.{cellIndex, decisionBy, decision, levelless};
+ghost use Rattle.edges.specs.SuperblockFilter.{Placed, sub, edgeCount, edgeLen, lumaX, lumaY, loopCell, isBlockEdge, onScreen};
+ghost use Rattle.edges.specs.Decision.{decisionBy, decision, levelless};
+ghost use Rattle.edges.specs.ScreenLaws.{Seen};
 use crate::filter_size::filter_size;
+use crate::superblock_filter::along;
 use crate::superblock_filter::apply_filter;
 use crate::superblock_filter::edge_count;
 use crate::superblock_filter::is_32_edge;
@@ -17,6 +19,7 @@ use crate::superblock_filter::loop_cell;
 use crate::superblock_filter::luma_x;
 use crate::superblock_filter::luma_y;
 use crate::superblock_filter::on_screen;
+use crate::superblock_filter::two_to;
 use cells::LfCell;
 use geometry::Luma;
 use geometry::Pass;
@@ -30,6 +33,13 @@ pub struct Decision {
     pub level: u8,
 }
 
+fn pick(second: bool, a: u8, b: u8) -> u8
+    requires { ⌜ (a < 4) × (b < 4) ⌝ }
+    ensures { λ r. ⌜ (r ≡ cond second b a) × (r ≤ 3) ⌝ }
+{
+    if second { b } else { a }
+}
+
 // A block edge by the logarithms of a cell's width and height.
 fn is_cell_edge(s: Superblock, pass: Pass, x: Luma, y: Luma, c: LfCell) -> bool
     requires { ⌜ Fields c ⌝ }
@@ -37,12 +47,83 @@ fn is_cell_edge(s: Superblock, pass: Pass, x: Luma, y: Luma, c: LfCell) -> bool
 {
     match pass {
         Pass::Vertical => {
-            let wide = two_to(if s.subx { c.width1 } else { c.width0 });
+            let wide = two_to(pick(s.subx, c.width0, c.width1));
             x.0 % (8 * wide) == 0
         }
         Pass::Horizontal => {
-            let high = two_to(if s.suby { c.height1 } else { c.height0 });
+            let high = two_to(pick(s.suby, c.height0, c.height1));
             y.0 % (8 * high) == 0
         }
     }
+}
+
+// What a cell decides of the position on screen at (x, y).
+fn decide_by(
+    s: Superblock,
+    pass: Pass,
+    chroma: bool,
+    edge: usize,
+    x: Luma,
+    y: Luma,
+    c: LfCell,
+) -> Decision
+    requires { ⌜ Placed s × (x .0 < 65792) × Fields c × (onScreen s pass (x .0) (y .0) ≡ true) ⌝ }
+    ensures { λ r. ⌜ ((i : ℕ) → x .0 ≡ lumaX s pass edge i → y .0 ≡ lumaY s pass edge i → r ≡ decisionBy s pass chroma edge i c) ⌝ }
+{
+    let tx = pick(chroma, c.tx, c.uvtx);
+    let block = is_cell_edge(s, pass, x, y, c);
+    let transform = is_tx_edge(s, pass, edge, x, tx);
+    let decided = apply_filter(true, block, transform, false, c.skipped);
+    let size = filter_size(s, pass, tx, is_32_edge(edge), x, y);
+    Decision { decided, present: c.present, size, level: c.level }
+}
+
+// The place of the position's cell among those of the superblock row.
+fn cell_index(s: Superblock, x: Luma, y: Luma) -> usize
+    requires { ⌜ Placed s × Seen s (x .0) (y .0) ⌝ }
+    ensures { λ r. ⌜ (r ≡ (loopCell (s .suby) (y .0) - s .row) * s .cols + loopCell (s .subx) (x .0)) × (r < cellsFrom (s .row) (s .cols) (s .rows)) ⌝ }
+{
+    let row = loop_cell(y, s.suby) - s.row;
+    let column = loop_cell(x, s.subx);
+    row * s.cols + column
+}
+
+// The cells are those of the superblock's row. Off the screen there is no cell to read.
+pub fn decide_unchecked(
+    cells: &[u32],
+    s: Superblock,
+    pass: Pass,
+    chroma: bool,
+    edge: usize,
+    i: usize,
+) -> Decision
+    requires { ⌜ Placed s × (edge < edgeCount s pass) × (i < edgeLen s pass) × (cellsFrom (s .row) (s .cols) (s .rows) ≤ length (now cells)) ⌝ }
+    ensures { λ r. ⌜ r ≡ decision s pass chroma (now (cells .entry)) edge i ⌝ }
+{
+    let x = luma_x(s, pass, edge, i);
+    let y = luma_y(s, pass, edge, i);
+    if on_screen(s, pass, x, y) {
+        let at = cell_index(s, x, y);
+        let c = LfCell::unpack(cells[at]);
+        return decide_by(s, pass, chroma, edge, x, y, c);
+    }
+    Decision { decided: false, present: false, size: 0, level: 0 }
+}
+
+// The place of the first decided position whose cell has no level, or 64 times the number of edges. Each edge has 8 cells, and
+// each is decided once, at its first position.
+pub fn first_levelless_unchecked(cells: &[u32], s: Superblock, pass: Pass, chroma: bool) -> usize
+    requires { ⌜ Placed s × (cellsFrom (s .row) (s .cols) (s .rows) ≤ length (now cells)) ⌝ }
+    ensures { λ r. ⌜ r ≡ first (levelless s pass chroma (now (cells .entry))) (64 * edgeCount s pass) ⌝ }
+{
+    let count = edge_count(s, pass);
+    for k in 0..8 * count {
+        let edge = k / 8;
+        let i = along(s, pass, 8 * (k % 8));
+        let d = decide_unchecked(cells, s, pass, chroma, edge, i);
+        if d.decided & !d.present {
+            return 64 * edge + i;
+        }
+    }
+    64 * count
 }

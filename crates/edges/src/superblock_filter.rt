@@ -3,7 +3,7 @@ ghost use mathlib.Core.Path.{_≡_};
 ghost use Prim.Native.Nat.{_*_, _^_, _≤_, _<_};
 ghost use Rattle.blocks.specs.ModeInfoLaws.{Block};
 ghost use Rattle.geometry.specs.Coordinates.{shl, shr};
-ghost use Rattle.edges.specs.SuperblockFilter.{Placed, edgeCount, edgeLen, lumaX, lumaY, loopCell, lastColumn, isTxEdge, is32Edge, atBorder, onScreen, applyFilter};
+ghost use Rattle.edges.specs.SuperblockFilter.{Placed, alongSub, edgeCount, edgeLen, lumaX, lumaY, planeX, planeY, loopCell, lastColumn, isTxEdge, is32Edge, atBorder, onScreen, applyFilter};
 ghost use Rattle.edges.specs.Edge.{blockEdge, edgeFacts, passOf, superblockFilterEdge, outcomeOf};
 use crate::filter_size::filter_size;
 use blocks::mode_info::bad_block;
@@ -13,6 +13,7 @@ use blocks::partition::num_8x8_high_unchecked;
 use blocks::partition::num_8x8_wide_unchecked;
 use geometry::Luma;
 use geometry::Pass;
+use geometry::Plane;
 use geometry::Superblock;
 use geometry::bad_frame_size;
 use geometry::bad_start;
@@ -82,6 +83,21 @@ pub(crate) fn luma_y(s: Superblock, pass: Pass, edge: usize, i: usize) -> Luma
         Pass::Vertical => Luma(s.row * 8 + doubled(i, s.suby)),
         Pass::Horizontal => Luma(s.row * 8 + edge * doubled(4, s.suby)),
     }
+}
+
+// The position's place in its plane.
+pub fn plane_x_unchecked(s: Superblock, pass: Pass, edge: usize, i: usize) -> Plane
+    requires { ⌜ Placed s × (edge < 16) × (i < 64) ⌝ }
+    ensures { λ r. ⌜ (r .0 ≡ planeX s pass edge i) × (r .0 < 65792) ⌝ }
+{
+    luma_x(s, pass, edge, i).in_plane(s.subx)
+}
+
+pub fn plane_y_unchecked(s: Superblock, pass: Pass, edge: usize, i: usize) -> Plane
+    requires { ⌜ Placed s × (edge < 16) × (i < 64) ⌝ }
+    ensures { λ r. ⌜ (r .0 ≡ planeY s pass edge i) × (r .0 < 65792) ⌝ }
+{
+    luma_y(s, pass, edge, i).in_plane(s.suby)
 }
 
 // A cell's column or row, on the subsampling grid.
@@ -217,13 +233,20 @@ pub fn edge_count(s: Superblock, pass: Pass) -> usize
     }
 }
 
+// n luma samples along an edge, in the samples of the plane.
+pub fn along(s: Superblock, pass: Pass, n: usize) -> usize
+    ensures { λ r. ⌜ (r ≡ shr n (alongSub s pass)) × (r ≤ n) ⌝ }
+{
+    match pass {
+        Pass::Vertical => halved(n, s.suby),
+        Pass::Horizontal => halved(n, s.subx),
+    }
+}
+
 pub fn edge_len(s: Superblock, pass: Pass) -> usize
     ensures { λ r. ⌜ (r ≡ edgeLen s pass) × (r ≤ 64) ⌝ }
 {
-    match pass {
-        Pass::Vertical => halved(64, s.suby),
-        Pass::Horizontal => halved(64, s.subx),
-    }
+    along(s, pass, 64)
 }
 
 pub fn pass_of(pass: u8) -> Pass

@@ -1,0 +1,37 @@
+use borrow.Author.Needs.{needs}
+use Prim.Native.Nat.{_+_, _-_, _*_, _<_}
+use native.Mathlib.Omega.{arith}
+use Rattle.geometry.specs.Frame.{cellsFrom}
+use Rattle.geometry.specs.FrameLaws.{cells-small}
+use Rattle.edges.specs.ScreenLaws.{loop-cell-from, cell-below}
+use Rattle.edges.proofs.decision.cell_index.Statement.{statement}
+use Rattle.edges.proofs.decision.cell_index.Tie as tie
+
+sub-row : tie.Need-sub-row
+sub-row c =
+    let start = c .before .before in
+    rw (c .before .loop-cell .ensures) (loop-cell-from _ _ (start .args .s .row) (start .pre .0 .row-eighth) (start .pre .1 .from))
+
+below : (c : tie.After-loop-cell2) →
+    let s = c .before .before .before .args .s in
+    (c .before .before .loop-cell .result - s .row) * s .cols + c .loop-cell2 .result < cellsFrom (s .row) (s .cols) (s .rows)
+below c =
+    let start = c .before .before .before in
+    rw (c .loop-cell2 .ensures, c .before .before .loop-cell .ensures) (cell-below (start .args .s) _ _ (start .pre .0) (start .pre .1))
+
+mul-result : tie.Need-mul-result
+mul-result c =
+    let start = c .before .before .before .before in
+    omega (arith, below (c .before), cells-small (start .args .s .row) (start .args .s .cols) (start .args .s .rows) (start .pre .0 .cols))
+
+add-result : tie.Need-add-result
+add-result c =
+    let start = c .before .before .before .before in
+    omega (arith, below (c .before), cells-small (start .args .s .row) (start .args .s .cols) (start .args .s .rows) (start .pre .0 .cols))
+
+returns : tie.Need-returns
+returns c = (rw (c .before .loop-cell2 .ensures, c .before .before .before .loop-cell .ensures), below (c .before))
+
+pub cell-index-spec : {M : Type 1} → statement M
+cell-index-spec =
+    tie.close (tie.spec (search needs) sub-row (search needs) mul-result add-result returns)
