@@ -23,6 +23,8 @@ use Rattle.strength.specs.Strength.{strengthOf}
 use Rattle.window.specs.Stencil.{applied}
 use Rattle.window.specs.Window.{badWindow, badSample, stencil}
 use Rattle.window.specs.declared.WindowShape.{WindowShape}
+use Rattle.pass.specs.declared.PassAnswer.{PassAnswer}
+use Rattle.pass.specs.declared.PassAnswer.the-variants.{Done, Sharpness, Depth, Subsampling, FrameSize, Row, Short, Plane, Column, Cell, Window, Sample, Level}
 
 -- A position of a pass: i along an edge.
 pub record Position : Type 0 where
@@ -105,3 +107,19 @@ superblockLoopFilterCells g sharpness depth subX subY miCols miRows row col plan
     (refuseFirst (badSample g (2 ^ depth) samples) (g .height * g .width) 13
     (refuseFirst (levelless (t .superblock) (passOf pass) (t .chroma) cells) (64 * edgeCount (t .superblock) (passOf pass)) 14
     (accepted (superblockLoopFilter g t (passOf pass) samples)))))))))))))
+
+-- document 01's number and place for each answer
+abbrev pub returnedOf : PassAnswer → Returned
+returnedOf Done = record { number = 0; place = 0 }
+returnedOf Sharpness = record { number = 1; place = 0 }
+returnedOf Depth = record { number = 2; place = 0 }
+returnedOf Subsampling = record { number = 3; place = 0 }
+returnedOf FrameSize = record { number = 4; place = 0 }
+returnedOf Row = record { number = 5; place = 0 }
+returnedOf Short = record { number = 7; place = 0 }
+returnedOf Plane = record { number = 9; place = 0 }
+returnedOf Column = record { number = 10; place = 0 }
+returnedOf (Cell k) = record { number = 11; place = k }
+returnedOf Window = record { number = 12; place = 0 }
+returnedOf (Sample k) = record { number = 13; place = k }
+returnedOf (Level k) = record { number = 14; place = k }

@@ -1,7 +1,7 @@
 // Runs whose taps are all in the window: no clamps and no tests.
 ghost use mathlib.Core.Path.{_≡_};
 ghost use mathlib.Core.Bool.{true};
-ghost use Prim.Native.Nat.{_+_, _*_, _≤_, _<_};
+ghost use Prim.Native.Nat.{_+_, _*_, _<_};
 ghost use lib.ListN.{length, getD};
 ghost use Rattle.base.specs.Depth.{supported};
 ghost use Rattle.line.specs.SampleFiltering.{sampleFiltering};

@@ -1,6 +1,6 @@
 // Where the samples of a window lie in the list that is lent.
 ghost use mathlib.Core.Path.{_≡_};
-ghost use Prim.Native.Nat.{_+_, _-_, _≤_};
+ghost use Prim.Native.Nat.{_≤_};
 ghost use Rattle.window.specs.Window.{place};
 ghost use Rattle.window.specs.InsideRun.{firstTap, tapStep, alongStep};
 ghost use Rattle.runs.specs.RunsLaws.{Near};

@@ -41,11 +41,11 @@ plain at step line = record { reads = λ k. at + k * step; stored = λ k. true; 
 abbrev pub plainRun : (at step along : ℕ) → (List ℕ → List ℕ) → (k : ℕ) → Stencil
 plainRun at step along line k = plain (at + k * along) step line
 
-abbrev InsideRun : WindowShape → Pass → (x y n : ℕ) → Type 0
+abbrev pub InsideRun : WindowShape → Pass → (x y n : ℕ) → Type 0
 InsideRun g Vertical x y n = (8 ≤ x) × (x + 8 ≤ g .width) × (g .top ≤ y) × (y + n ≤ g .top + g .height)
 InsideRun g Horizontal x y n = (x + n ≤ g .width) × (g .top + 8 ≤ y) × (y + 8 ≤ g .top + g .height)
 
-inside-run : (g : WindowShape) (pass : Pass) (x y n : ℕ) → insideRun g pass x y n ≡ true → InsideRun g pass x y n
+pub inside-run : (g : WindowShape) (pass : Pass) (x y n : ℕ) → insideRun g pass x y n ≡ true → InsideRun g pass x y n
 inside-run g Vertical x y n e =
     let a = both (leb 8 x && leb (x + 8) (g .width) && leb (g .top) y) (leb (y + n) (g .top + g .height)) e in
     let b = both (leb 8 x && leb (x + 8) (g .width)) (leb (g .top) y) (a .0) in
