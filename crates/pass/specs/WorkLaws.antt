@@ -19,9 +19,12 @@ use Rattle.geometry.specs.Coordinates.{shr}
 use Rattle.geometry.specs.Frame.{cellsFrom}
 use Rattle.geometry.specs.declared.Pass.{Pass}
 use Rattle.geometry.specs.declared.Pass.the-variants.{Vertical, Horizontal}
+use Rattle.line.specs.SampleFiltering.{sampleFiltering}
 use Rattle.order.specs.Grid.{select, strip, grid}
 use Rattle.order.specs.Order.{run}
 use Rattle.order.specs.Walk.{when, run-strip-more, run-strip-last, run-grid-next}
+use Rattle.strength.specs.Strength.{strengthOf}
+use Rattle.strength.specs.declared.FilterStrength.{FilterStrength}
 use Rattle.window.specs.Reach.{stencil-idle}
 use Rattle.window.specs.Stencil.{applied, inTurn}
 use Rattle.window.specs.StencilLaws.{applied-length}
@@ -37,6 +40,10 @@ pub record Ready (g : WindowShape) (lent : ℕ) (t : Setting) : Type 0 where
   pub cells : cellsFrom (t .superblock .row) (t .superblock .cols) (t .superblock .rows) ≤ length (t .cells)
   pub sharpness : t .sharpness ≤ 7
   pub depth : supported (t .depth) ≡ true
+
+-- it stays so while samples are stored
+pub still-ready : (g : WindowShape) (t : Setting) (before after : ℕ) → after ≡ before → Ready g before t → Ready g after t
+still-ready g t before after e r = rw e r
 
 pub steps-length : (g : WindowShape) (t : Setting) (pass : Pass) (order : List Position) (samples : List ℕ) → length (run (step g t pass) order samples) ≡ length samples
 unfolding step
@@ -54,6 +61,21 @@ module _ (g : WindowShape) (t : Setting) (pass : Pass) where
 
   abbrev pub cellLen : ℕ
   cellLen = shr 8 (alongSub (t .superblock) pass)
+
+  pub len-cell : (n : ℕ) → n ≡ edgeLen (t .superblock) pass → n / 8 ≡ cellLen
+  unfolding edgeLen
+  len-cell n e = rw e (by (alongSub (t .superblock) pass))
+    where
+      by : (sub : Bool) → shr 64 sub / 8 ≡ shr 8 sub
+      by true = refl
+      by false = refl
+
+  pub start-cell : (n c : ℕ) → n ≡ edgeLen (t .superblock) pass → c * (n / 8) ≡ cellStart c
+  start-cell n c e = rw (len-cell n e) (by (alongSub (t .superblock) pass))
+    where
+      by : (sub : Bool) → c * shr 8 sub ≡ shr (8 * c) sub
+      by true = omega arith
+      by false = omega arith
 
   -- cell c of an edge; the first c cells of an edge; the first n edges
   unfoldable pub cellDone : (edge c : ℕ) → List ℕ → List ℕ
@@ -150,6 +172,13 @@ module _ (g : WindowShape) (t : Setting) (pass : Pass) where
         from (suc n) h =
             ap (λ (w : List ℕ). applied (runOf g pass x y (lineOf t d) n) w) (from n (omega arith))
             ∙ does n (stripDone edge (cellStart c) n samples) ∙ sym (turn n (omega arith) (stripDone edge (cellStart c) n samples)) ∙ sym (last n samples)
+
+    -- as the code calls it
+    pub cell-run : d .decided ≡ true → 0 < d .level → (x′ y′ n : ℕ) (st : FilterStrength) → x′ ≡ x → y′ ≡ y → n ≡ cellLen → st ≡ strengthOf (d .level) (t .sharpness)
+        → (samples result : List ℕ) → result ≡ inTurn (runOf g pass x′ y′ (sampleFiltering (t .depth) (d .size) (st .limit) (st .blimit) (st .thresh))) n samples → result ≡ cellDone edge c samples
+    unfolding lineOf
+    cell-run on level x′ y′ n st ex ey en es samples result h =
+        h ∙ (λ i. inTurn (runOf g pass (ex i) (ey i) (sampleFiltering (t .depth) (d .size) (es i .limit) (es i .blimit) (es i .thresh))) (en i) samples) ∙ cell-filtered on level samples
 
     -- what is not decided, or has level 0, is left
     idle : (d .decided && filters d) ≡ false → (k : ℕ) → k < cellLen → (samples : List ℕ)
