@@ -75,7 +75,12 @@ fn decide_by(
     let transform = is_tx_edge(s, pass, edge, x, tx);
     let decided = apply_filter(true, block, transform, false, c.skipped);
     let size = filter_size(s, pass, tx, is_32_edge(edge), x, y);
-    Decision { decided, present: c.present, size, level: c.level }
+    Decision {
+        decided,
+        present: c.present,
+        size,
+        level: c.level,
+    }
 }
 
 // The place of the position's cell among those of the superblock row.
@@ -107,7 +112,12 @@ pub fn decide_unchecked(
         let c = LfCell::unpack(cells[at]);
         return decide_by(s, pass, chroma, edge, x, y, c);
     }
-    Decision { decided: false, present: false, size: 0, level: 0 }
+    Decision {
+        decided: false,
+        present: false,
+        size: 0,
+        level: 0,
+    }
 }
 
 // The place of the first decided position whose cell has no level, or 64 times the number of edges. Each edge has 8 cells, and

@@ -1,4 +1,4 @@
 pub mod Pass
-pub mod PassLaws
 pub mod WorkLaws
+pub mod PassLaws
 pub mod OrderOfWork

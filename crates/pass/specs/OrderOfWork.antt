@@ -171,4 +171,4 @@ pub order-of-work : (g : WindowShape) (sharpness depth subX subY miCols miRows r
     → SameEnd g (settingOf sharpness depth subX subY miCols miRows row col plane cells) (passOf pass) samples result order
 order-of-work g sharpness depth subX subY miCols miRows row col plane pass cells samples result e order o =
     let r = ran g sharpness depth subX subY miCols miRows row col plane pass cells samples result e in
-    rw (r .result-is) (order-of-steps g (settingOf sharpness depth subX subY miCols miRows row col plane cells) (passOf pass) samples (r .window-lent) order o)
+    rw (r .result-is) (order-of-steps g (settingOf sharpness depth subX subY miCols miRows row col plane cells) (passOf pass) samples (r .lists .window-lent) order o)

@@ -89,24 +89,36 @@ settingOf sharpness depth subX subY miCols miRows row col plane cells =
 abbrev pub badCell : (cells : List ℕ) (k : ℕ) → Bool
 badCell cells k = badWord (getD cells k 0)
 
--- the operation with document 01's refusals
-unfoldable pub superblockLoopFilterCells : WindowShape → (sharpness depth subX subY miCols miRows row col plane pass : ℕ) (cells samples : List ℕ) → Outcome (List ℕ)
-superblockLoopFilterCells g sharpness depth subX subY miCols miRows row col plane pass cells samples =
-    let t = settingOf sharpness depth subX subY miCols miRows row col plane cells in
-    let n = cellsFrom row miCols miRows in
+-- refusals 1 to 10, which numbers decide, and what follows them
+abbrev pub numbersRefused : {A : Type 0} → (sharpness depth subX subY miCols miRows row col plane pass cellsLent : ℕ) → Outcome A → Outcome A
+numbersRefused sharpness depth subX subY miCols miRows row col plane pass cellsLent after =
     refuse (ltb 7 sharpness) 1 0
     (refuse (not (supported depth)) 2 0
     (refuse (badSubsampling subX subY) 3 0
     (refuse (badFrameSize miCols miRows) 4 0
     (refuse (badStart row miRows) 5 0
-    (refuse (ltb (length cells) n) 7 0
+    (refuse (ltb cellsLent (cellsFrom row miCols miRows)) 7 0
     (refuse (ltb 2 plane || ltb 1 pass) 9 0
     (refuse (badStart col miCols) 10 0
-    (refuseFirst (badCell cells) n 11
+    after)))))))
+
+-- refusals 11 to 14, which lists decide, and what follows them
+abbrev pub listsRefused : {A : Type 0} → WindowShape → Setting → Pass → (samples : List ℕ) → Outcome A → Outcome A
+listsRefused g t pass samples after =
+    let s = t .superblock in
+    refuseFirst (badCell (t .cells)) (cellsFrom (s .row) (s .cols) (s .rows)) 11
     (refuse (badWindow g (length samples)) 12 0
-    (refuseFirst (badSample g (2 ^ depth) samples) (g .height * g .width) 13
-    (refuseFirst (levelless (t .superblock) (passOf pass) (t .chroma) cells) (64 * edgeCount (t .superblock) (passOf pass)) 14
-    (accepted (superblockLoopFilter g t (passOf pass) samples)))))))))))))
+    (refuseFirst (badSample g (2 ^ t .depth) samples) (g .height * g .width) 13
+    (refuseFirst (levelless s pass (t .chroma) (t .cells)) (64 * edgeCount s pass) 14
+    after)))
+
+-- the operation with document 01's refusals
+unfoldable pub superblockLoopFilterCells : WindowShape → (sharpness depth subX subY miCols miRows row col plane pass : ℕ) (cells samples : List ℕ) → Outcome (List ℕ)
+superblockLoopFilterCells g sharpness depth subX subY miCols miRows row col plane pass cells samples =
+    let t = settingOf sharpness depth subX subY miCols miRows row col plane cells in
+    numbersRefused sharpness depth subX subY miCols miRows row col plane pass (length cells)
+    (listsRefused g t (passOf pass) samples
+    (accepted (superblockLoopFilter g t (passOf pass) samples)))
 
 -- document 01's number and place for each answer
 abbrev pub returnedOf : PassAnswer → Returned

@@ -1,68 +1,130 @@
--- Laws of the pass: what is known of one that was accepted.
+-- Laws of the pass: what its tests leave, and what is known of a pass that was accepted.
 -- Assumes nothing.
-use mathlib.Core.Path.{_≡_, sym}
+use mathlib.Core.Path.{_≡_, refl, sym, _∙_}
 use mathlib.Core.Bool.{Bool, true, false, not, _||_}
 use mathlib.Core.List.{List}
 use Prim.Native.Nat.{ℕ, _*_, _^_, _≤_}
-use lib.Dec.{eqb, ltb}
+use lib.Dec.{ltb}
 use lib.ListN.{length}
 use borrow.Author.Tests.{ltb-false, not-false}
 use Rattle.base.specs.Depth.{supported}
 use Rattle.base.specs.First.{found}
-use Rattle.base.specs.Outcome.{accepted}
+use Rattle.base.specs.Outcome.{Outcome, accepted, refused, held, returned, Answers}
 use Rattle.base.specs.OutcomeLaws.{passed, result-is}
 use Rattle.edges.specs.Decision.{levelless}
 use Rattle.edges.specs.Edge.{passOf}
 use Rattle.edges.specs.EdgeLaws.{placed}
 use Rattle.edges.specs.SuperblockFilter.{Placed, edgeCount}
 use Rattle.geometry.specs.Frame.{badSubsampling, badFrameSize, badStart, cellsFrom}
+use Rattle.geometry.specs.declared.Pass.{Pass}
+use Rattle.geometry.specs.declared.Superblock.{Superblock}
 use Rattle.window.specs.Window.{badWindow, badSample}
 use Rattle.window.specs.WindowLaws.{Lent, lent}
 use Rattle.window.specs.declared.WindowShape.{WindowShape}
-use Rattle.pass.specs.Pass.{Setting, settingOf, badCell, superblockLoopFilter, superblockLoopFilterCells}
+use Rattle.pass.specs.Pass.{Setting, settingOf, badCell, superblockLoopFilter, numbersRefused, listsRefused, superblockLoopFilterCells, returnedOf}
+use Rattle.pass.specs.WorkLaws.{Ready}
+use Rattle.pass.specs.declared.PassAnswer.{PassAnswer}
+use Rattle.pass.specs.declared.PassAnswer.the-variants.{Done, Sharpness, Depth, Subsampling, FrameSize, Row, Short, Plane, Column, Cell, Window, Sample, Level}
+
+-- ---- what the tests of the numbers leave
+
+pub record Numbers (sharpness depth miCols miRows row col cellsLent : ℕ) : Type 0 where
+  pub sharpness-fits : sharpness ≤ 7
+  pub depth-known : supported depth ≡ true
+  pub placed-at : (subx suby : Bool) → Placed (record { subx = subx; suby = suby; cols = miCols; rows = miRows; row = row; col = col })
+  pub cells-lent : cellsFrom row miCols miRows ≤ cellsLent
+
+pub numbers-passed : {A : Type 0} (sharpness depth subX subY miCols miRows row col plane pass cellsLent : ℕ) (after : Outcome A) {result : A}
+    → numbersRefused sharpness depth subX subY miCols miRows row col plane pass cellsLent after ≡ accepted result
+    → Numbers sharpness depth miCols miRows row col cellsLent × (after ≡ accepted result)
+numbers-passed sharpness depth subX subY miCols miRows row col plane pass cellsLent after e =
+    let t1 = passed (ltb 7 sharpness) 1 0 _ e in
+    let t2 = passed (not (supported depth)) 2 0 _ (t1 .1) in
+    let t3 = passed (badSubsampling subX subY) 3 0 _ (t2 .1) in
+    let t4 = passed (badFrameSize miCols miRows) 4 0 _ (t3 .1) in
+    let t5 = passed (badStart row miRows) 5 0 _ (t4 .1) in
+    let t7 = passed (ltb cellsLent (cellsFrom row miCols miRows)) 7 0 _ (t5 .1) in
+    let t9 = passed (ltb 2 plane || ltb 1 pass) 9 0 _ (t7 .1) in
+    let t10 = passed (badStart col miCols) 10 0 _ (t9 .1) in (
+      record {
+        sharpness-fits = ltb-false 7 sharpness (t1 .0);
+        depth-known = not-false (supported depth) (t2 .0);
+        placed-at = λ subx suby. placed (record { subx = subx; suby = suby; cols = miCols; rows = miRows; row = row; col = col }) (t4 .0) (t5 .0) (t10 .0);
+        cells-lent = ltb-false cellsLent (cellsFrom row miCols miRows) (t7 .0);
+      },
+      t10 .1,
+    )
+
+-- ---- what the tests of the lists leave
+
+pub record Lists (g : WindowShape) (t : Setting) (pass : Pass) (samples : List ℕ) : Type 0 where
+  pub cells-good : found (badCell (t .cells)) (cellsFrom (t .superblock .row) (t .superblock .cols) (t .superblock .rows)) ≡ false
+  pub window-lent : Lent g (length samples)
+  pub samples-good : found (badSample g (2 ^ t .depth) samples) (g .height * g .width) ≡ false
+  pub levels-present : found (levelless (t .superblock) pass (t .chroma) (t .cells)) (64 * edgeCount (t .superblock) pass) ≡ false
+
+pub lists-passed : {A : Type 0} (g : WindowShape) (t : Setting) (pass : Pass) (samples : List ℕ) (after : Outcome A) {result : A}
+    → listsRefused g t pass samples after ≡ accepted result → Lists g t pass samples × (after ≡ accepted result)
+lists-passed g t pass samples after e =
+    let t11 = passed (found (badCell (t .cells)) (cellsFrom (t .superblock .row) (t .superblock .cols) (t .superblock .rows))) 11 _ _ e in
+    let t12 = passed (badWindow g (length samples)) 12 0 _ (t11 .1) in
+    let t13 = passed (found (badSample g (2 ^ t .depth) samples) (g .height * g .width)) 13 _ _ (t12 .1) in
+    let t14 = passed (found (levelless (t .superblock) pass (t .chroma) (t .cells)) (64 * edgeCount (t .superblock) pass)) 14 _ _ (t13 .1) in
+    (record { cells-good = t11 .0; window-lent = lent g (length samples) (t12 .0); samples-good = t13 .0; levels-present = t14 .0 }, t14 .1)
+
+-- ---- a pass that was accepted
 
 module _ (g : WindowShape) (sharpness depth subX subY miCols miRows row col plane pass : ℕ) (cells samples : List ℕ) where
-  abbrev pub given : Setting
+  abbrev given : Setting
   given = settingOf sharpness depth subX subY miCols miRows row col plane cells
-
-  abbrev n : ℕ
-  n = cellsFrom row miCols miRows
 
   -- its tests are passed, and this is its result
   pub record Ran (result : List ℕ) : Type 0 where
-    pub sharpness-fits : sharpness ≤ 7
-    pub depth-known : supported depth ≡ true
-    pub superblock-placed : Placed (given .superblock)
-    pub cells-lent : n ≤ length cells
-    pub window-lent : Lent g (length samples)
-    pub cells-good : found (badCell cells) n ≡ false
-    pub samples-good : found (badSample g (2 ^ depth) samples) (g .height * g .width) ≡ false
-    pub levels-present : found (levelless (given .superblock) (passOf pass) (given .chroma) cells) (64 * edgeCount (given .superblock) (passOf pass)) ≡ false
+    pub numbers : Numbers sharpness depth miCols miRows row col (length cells)
+    pub lists : Lists g given (passOf pass) samples
     pub result-is : result ≡ superblockLoopFilter g given (passOf pass) samples
 
   pub ran : (result : List ℕ) → superblockLoopFilterCells g sharpness depth subX subY miCols miRows row col plane pass cells samples ≡ accepted result → Ran result
   unfolding superblockLoopFilterCells
   ran result e =
-      let t1 = passed (ltb 7 sharpness) 1 0 _ e in
-      let t2 = passed (not (supported depth)) 2 0 _ (t1 .1) in
-      let t3 = passed (badSubsampling subX subY) 3 0 _ (t2 .1) in
-      let t4 = passed (badFrameSize miCols miRows) 4 0 _ (t3 .1) in
-      let t5 = passed (badStart row miRows) 5 0 _ (t4 .1) in
-      let t7 = passed (ltb (length cells) n) 7 0 _ (t5 .1) in
-      let t9 = passed (ltb 2 plane || ltb 1 pass) 9 0 _ (t7 .1) in
-      let t10 = passed (badStart col miCols) 10 0 _ (t9 .1) in
-      let t11 = passed (found (badCell cells) n) 11 _ _ (t10 .1) in
-      let t12 = passed (badWindow g (length samples)) 12 0 _ (t11 .1) in
-      let t13 = passed (found (badSample g (2 ^ depth) samples) (g .height * g .width)) 13 _ _ (t12 .1) in
-      let t14 = passed (found (levelless (given .superblock) (passOf pass) (given .chroma) cells) (64 * edgeCount (given .superblock) (passOf pass))) 14 _ _ (t13 .1) in
-      record {
-        sharpness-fits = ltb-false 7 sharpness (t1 .0);
-        depth-known = not-false (supported depth) (t2 .0);
-        superblock-placed = placed (given .superblock) (t4 .0) (t5 .0) (t10 .0);
-        cells-lent = ltb-false (length cells) n (t7 .0);
-        window-lent = lent g (length samples) (t12 .0);
-        cells-good = t11 .0;
-        samples-good = t13 .0;
-        levels-present = t14 .0;
-        result-is = sym (result-is (t14 .1));
-      }
+      let n = numbers-passed sharpness depth subX subY miCols miRows row col plane pass (length cells) _ e in
+      let l = lists-passed g given (passOf pass) samples _ (n .1) in
+      record { numbers = n .0; lists = l .0; result-is = sym (result-is (l .1)) }
+
+-- ---- the tests as the code makes them
+
+-- what follows an answer: nothing after a refusal
+abbrev pub afterwards : {A : Type 0} → PassAnswer → Outcome A → Outcome A
+afterwards Done after = after
+afterwards Sharpness after = refused 1 0
+afterwards Depth after = refused 2 0
+afterwards Subsampling after = refused 3 0
+afterwards FrameSize after = refused 4 0
+afterwards Row after = refused 5 0
+afterwards Short after = refused 7 0
+afterwards Plane after = refused 9 0
+afterwards Column after = refused 10 0
+afterwards (Cell k) after = refused 11 k
+afterwards Window after = refused 12 0
+afterwards (Sample k) after = refused 13 k
+afterwards (Level k) after = refused 14 k
+
+-- a refusal is what the call returns, and nothing has changed
+pub refused-answer : (answer : PassAnswer) → (answer ≡ Done → ⊥) → (outcome : Outcome (List ℕ)) (samples : List ℕ) → {after : Outcome (List ℕ)} → outcome ≡ afterwards answer after
+    → Answers outcome (returnedOf answer) samples samples
+refused-answer Done no outcome samples e = absurd (no refl)
+refused-answer Sharpness no outcome samples e = rw e (refl, refl)
+refused-answer Depth no outcome samples e = rw e (refl, refl)
+refused-answer Subsampling no outcome samples e = rw e (refl, refl)
+refused-answer FrameSize no outcome samples e = rw e (refl, refl)
+refused-answer Row no outcome samples e = rw e (refl, refl)
+refused-answer Short no outcome samples e = rw e (refl, refl)
+refused-answer Plane no outcome samples e = rw e (refl, refl)
+refused-answer Column no outcome samples e = rw e (refl, refl)
+refused-answer (Cell k) no outcome samples e = rw e (refl, refl)
+refused-answer Window no outcome samples e = rw e (refl, refl)
+refused-answer (Sample k) no outcome samples e = rw e (refl, refl)
+refused-answer (Level k) no outcome samples e = rw e (refl, refl)
+
+pub done-answer : (outcome : Outcome (List ℕ)) (samples result : List ℕ) → outcome ≡ accepted result → Answers outcome (returnedOf Done) samples result
+done-answer outcome samples result e = rw e (refl, refl)

@@ -57,6 +57,17 @@ pub(crate) fn filter_edge(
     ensures { λ r. ⌜ now (samples .exit) ≡ cellsDone g (setting s chroma sharpness depth (now (cells .entry))) pass edge 8 (now (samples .entry)) ⌝ }
 {
     for c in 0..8 {
-        filter_cell(samples, g, cells, s, pass, chroma, sharpness, depth, edge, c);
+        filter_cell(
+            samples,
+            g,
+            cells,
+            s,
+            pass,
+            chroma,
+            sharpness,
+            depth,
+            edge,
+            c,
+        );
     }
 }

@@ -1,30 +1,26 @@
 // One pass over one superblock of a plane, as superblock_loop_filter_cells of the Rust's superblock_loop_filter.rs does it.
 ghost use mathlib.Core.Path.{_≡_};
+ghost use mathlib.Core.Bool.{true};
+ghost use Prim.Native.Nat.{_≤_};
 ghost use lib.ListN.{length};
-ghost use Rattle.base.specs.Outcome.{Answers};
-ghost use Rattle.pass.specs.Pass.{setting, superblockLoopFilter, superblockLoopFilterCells, returnedOf};
+ghost use Rattle.base.specs.Depth.{supported};
+ghost use Rattle.base.specs.Outcome.{accepted, Answers};
+ghost use Rattle.edges.specs.SuperblockFilter.{Placed};
+ghost use Rattle.geometry.specs.Frame.{cellsFrom};
+ghost use Rattle.pass.specs.Pass.{setting, superblockLoopFilter, listsRefused, superblockLoopFilterCells, returnedOf};
 ghost use Rattle.pass.specs.WorkLaws.{Ready};
 
 mod edge;
 mod faults;
 
-use base::is_supported;
 use edge::filter_edge;
-use edges::decision::first_levelless_unchecked;
 use edges::superblock_filter::edge_count;
 use edges::superblock_filter::pass_of;
-use faults::any_bad_cell;
-use faults::first_bad_cell;
+use faults::list_faults;
+use faults::number_faults;
 use geometry::Pass;
 use geometry::Superblock;
-use geometry::bad_frame_size;
-use geometry::bad_start;
-use geometry::bad_subsampling;
-use geometry::cell_count_unchecked;
 use window::WindowShape;
-use window::any_bad_sample_unchecked;
-use window::bad_window;
-use window::first_bad_sample_unchecked;
 
 // What became of a pass: it was run, or refused.
 pub enum PassAnswer {
@@ -61,4 +57,81 @@ pub fn superblock_loop_filter_unchecked(
     for edge in 0..count {
         filter_edge(samples, g, cells, s, pass, chroma, sharpness, depth, edge);
     }
+}
+
+// The tests of the lists, and then the work.
+fn tested_numbers(
+    samples: &mut [u16],
+    g: WindowShape,
+    cells: &[u32],
+    s: Superblock,
+    pass: Pass,
+    chroma: bool,
+    sharpness: u8,
+    depth: u8,
+) -> PassAnswer
+    requires { ⌜ Placed s × (cellsFrom (s .row) (s .cols) (s .rows) ≤ length (now cells)) × (sharpness ≤ 7) × (supported depth ≡ true) ⌝ }
+    ensures { λ r. ⌜ Answers (listsRefused g (setting s chroma sharpness depth (now (cells .entry))) pass (now (samples .entry)) (accepted (superblockLoopFilter g (setting s chroma sharpness depth (now (cells .entry))) pass (now (samples .entry))))) (returnedOf r) (now (samples .entry)) (now (samples .exit)) ⌝ }
+{
+    let faults = list_faults(samples, g, cells, s, pass, chroma, sharpness, depth);
+    if let PassAnswer::Done = faults {
+        superblock_loop_filter_unchecked(samples, g, cells, s, pass, chroma, sharpness, depth);
+        return PassAnswer::Done;
+    }
+    faults
+}
+
+// Takes any samples, any cells and any numbers. A refusal leaves every sample as it was.
+pub fn superblock_loop_filter_cells(
+    samples: &mut [u16],
+    g: WindowShape,
+    cells: &[u32],
+    sharpness: u8,
+    depth: u8,
+    sub_x: u8,
+    sub_y: u8,
+    mi_cols: usize,
+    mi_rows: usize,
+    row: usize,
+    col: usize,
+    plane: u8,
+    pass: u8,
+) -> PassAnswer
+    ensures { λ r. ⌜ Answers (superblockLoopFilterCells g sharpness depth «sub_x» «sub_y» «mi_cols» «mi_rows» row col plane pass (now (cells .entry)) (now (samples .entry))) (returnedOf r) (now (samples .entry)) (now (samples .exit)) ⌝ }
+{
+    let faults = number_faults(
+        sharpness,
+        depth,
+        sub_x,
+        sub_y,
+        mi_cols,
+        mi_rows,
+        row,
+        col,
+        plane,
+        pass,
+        cells.len(),
+    );
+    if let PassAnswer::Done = faults {
+        let chroma = 0 < plane;
+        let s = Superblock {
+            subx: chroma & (sub_x == 1),
+            suby: chroma & (sub_y == 1),
+            cols: mi_cols,
+            rows: mi_rows,
+            row,
+            col,
+        };
+        return tested_numbers(
+            samples,
+            g,
+            cells,
+            s,
+            pass_of(pass),
+            chroma,
+            sharpness,
+            depth,
+        );
+    }
+    faults
 }

@@ -26,18 +26,20 @@ loop-holds c = let start = c .before .before .before in (omega arith, edges-none
 filter-edge-requires : tie.Need-filter-edge-requires Inv-loop μ-loop
 filter-edge-requires c κs =
     let start = c .before .before .before .before .before .before in
-    let loop = c .before .before .loop in
-    (still-ready (start .args .g) (given start) _ _ (ap length (loop .inv .1) ∙ edges-length (start .args .g) (given start) (start .args .pass) (loop .edge) _) (start .pre),
-    rw (c .before .before .before .edge-count .ensures .0) at (c .before .loop-test .taken))
+    let loop = c .before .before .loop in (
+      still-ready (start .args .g) (given start) _ _ (ap length (loop .inv .1) ∙ edges-length (start .args .g) (given start) (start .args .pass) (loop .edge) _) (start .pre),
+      rw (c .before .before .before .edge-count .ensures .0) at (c .before .loop-test .taken),
+    )
 
 loop-again : tie.Need-loop-again Inv-loop μ-loop
 loop-again c =
     let start = c .before .before .before .before .before .before .before .before .before in
-    let loop = c .before .before .before .before .before .loop in
-    (omega arith,
-    c .before .before .filter-edge .ensures
-    ∙ ap (cellsDone (start .args .g) (given start) (start .args .pass) (loop .edge) 8) (loop .inv .1)
-    ∙ edges-more (start .args .g) (given start) (start .args .pass) (loop .edge) _)
+    let loop = c .before .before .before .before .before .loop in (
+      omega arith,
+      c .before .before .filter-edge .ensures
+          ∙ ap (cellsDone (start .args .g) (given start) (start .args .pass) (loop .edge) 8) (loop .inv .1)
+          ∙ edges-more (start .args .g) (given start) (start .args .pass) (loop .edge) _,
+    )
 
 same-length : tie.Need-same-length Inv-loop μ-loop
 same-length c =

@@ -25,18 +25,21 @@ loop-holds c = let start = c .before .before in (omega arith, cells-none (start 
 filter-cell-requires : tie.Need-filter-cell-requires Inv-loop μ-loop
 filter-cell-requires c κs =
     let start = c .before .before .before .before .before in
-    let loop = c .before .before .loop in
-    (still-ready (start .args .g) (given start) _ _ (ap length (loop .inv .1) ∙ cells-length (start .args .g) (given start) (start .args .pass) (start .args .edge) (loop .c) _) (start .pre .0),
-    start .pre .1, c .before .loop-test .taken)
+    let loop = c .before .before .loop in (
+      still-ready (start .args .g) (given start) _ _ (ap length (loop .inv .1) ∙ cells-length (start .args .g) (given start) (start .args .pass) (start .args .edge) (loop .c) _) (start .pre .0),
+      start .pre .1,
+      c .before .loop-test .taken,
+    )
 
 loop-again : tie.Need-loop-again Inv-loop μ-loop
 loop-again c =
     let start = c .before .before .before .before .before .before .before .before in
-    let loop = c .before .before .before .before .before .loop in
-    (omega arith,
-    c .before .before .filter-cell .ensures
-    ∙ ap (cellDone (start .args .g) (given start) (start .args .pass) (start .args .edge) (loop .c)) (loop .inv .1)
-    ∙ cells-more (start .args .g) (given start) (start .args .pass) (start .args .edge) (loop .c) _)
+    let loop = c .before .before .before .before .before .loop in (
+      omega arith,
+      c .before .before .filter-cell .ensures
+          ∙ ap (cellDone (start .args .g) (given start) (start .args .pass) (start .args .edge) (loop .c)) (loop .inv .1)
+          ∙ cells-more (start .args .g) (given start) (start .args .pass) (start .args .edge) (loop .c) _,
+    )
 
 same-length : tie.Need-same-length Inv-loop μ-loop
 same-length c =
