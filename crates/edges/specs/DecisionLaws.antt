@@ -80,7 +80,7 @@ module _ (s : Superblock) (edge i j : ℕ) where
     unfolding decision
     same-cell chroma cells = λ t. cond (same-screen t) (same-by chroma (cellOf (getD cells (same-index t) 0)) t) (record { decided = false; present = false; size = 0; level = 0 })
 
--- the samples of cell c along an edge, counted from the superblock's start, which is n cells from the frame's
+-- the positions of cell c are in one cell of luma samples, where the superblock starts n cells from the frame's border
 along-cell : (n c k : ℕ) (sub : Bool) → k < shr 8 sub → (n * 8 + shl (shr (8 * c) sub + k) sub) / 8 ≡ (n * 8 + shl (shr (8 * c) sub) sub) / 8
 along-cell n c k true h = let half : 8 * c / 2 ≡ 4 * c = omega arith in rw half (omega arith)
 along-cell n c k false h = omega arith

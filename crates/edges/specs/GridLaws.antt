@@ -42,7 +42,7 @@ cell-first s pass c h = omega (arith, cell-along s pass c h, some (alongSub s pa
     some true = omega arith
     some false = omega arith
 
--- cells that are n cells from the frame's border, and i samples of the plane
+-- positions i and i + k in the plane, where the superblock starts n cells from the frame's border
 plane-along : (n i k : ℕ) (sub : Bool) → shr (n * 8 + shl (i + k) sub) sub ≡ shr (n * 8 + shl i sub) sub + k
 plane-along n i k true = omega arith
 plane-along n i k false = omega arith

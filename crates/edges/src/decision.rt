@@ -33,6 +33,7 @@ pub struct Decision {
     pub level: u8,
 }
 
+// The second of two fields of a cell where the flag is set, else the first.
 fn pick(second: bool, a: u8, b: u8) -> u8
     requires { ⌜ (a < 4) × (b < 4) ⌝ }
     ensures { λ r. ⌜ (r ≡ cond second b a) × (r ≤ 3) ⌝ }

@@ -19,15 +19,16 @@ below c =
     let start = c .before .before .before in
     rw (c .loop-cell2 .ensures, c .before .before .loop-cell .ensures) (cell-below (start .args .s) _ _ (start .pre .0) (start .pre .1))
 
+small : (c : tie.After-loop-cell2) → (c .before .before .loop-cell .result - c .before .before .before .args .s .row) * c .before .before .before .args .s .cols + c .loop-cell2 .result < 65536
+small c =
+    let start = c .before .before .before in
+    omega (arith, below c, cells-small (start .args .s .row) (start .args .s .cols) (start .args .s .rows) (start .pre .0 .cols))
+
 mul-result : tie.Need-mul-result
-mul-result c =
-    let start = c .before .before .before .before in
-    omega (arith, below (c .before), cells-small (start .args .s .row) (start .args .s .cols) (start .args .s .rows) (start .pre .0 .cols))
+mul-result c = omega (arith, small (c .before))
 
 add-result : tie.Need-add-result
-add-result c =
-    let start = c .before .before .before .before in
-    omega (arith, below (c .before), cells-small (start .args .s .row) (start .args .s .cols) (start .args .s .rows) (start .pre .0 .cols))
+add-result c = omega (arith, small (c .before))
 
 returns : tie.Need-returns
 returns c = (rw (c .before .loop-cell2 .ensures, c .before .before .before .loop-cell .ensures), below (c .before))

@@ -1,12 +1,12 @@
 use borrow.Author.Needs.{needs}
-use mathlib.Core.Path.{_≡_, sym, ap, _∙_}
+use mathlib.Core.Bool.{true}
+use mathlib.Core.Path.{_≡_, sym, _∙_}
 use native.Mathlib.Omega.{arith}
-use lib.ListN.{getD}
-use Rattle.cells.specs.Cell.{cellOf}
 use Rattle.cells.specs.CellLaws.{cell-fields}
-use Rattle.edges.specs.Decision.{cellIndex, decisionBy, decision}
+use Rattle.edges.specs.Decision.{cellIndex, decision}
 use Rattle.edges.specs.GridLaws.{edge-count-small, edge-len-small}
 use Rattle.edges.specs.ScreenLaws.{seen}
+use Rattle.edges.specs.SuperblockFilter.{onScreen}
 use Rattle.edges.proofs.decision.decide_unchecked.Statement.{statement}
 use Rattle.edges.proofs.decision.decide_unchecked.Tie as tie
 
@@ -20,38 +20,41 @@ luma-y-requires : tie.Need-luma-y-requires
 luma-y-requires c κs = luma-x-requires (c .before) κs
 
 -- on screen there is a cell to read
+shown : (c : tie.Then1) →
+    let at-y = c .before .before in
+    let a = at-y .before .before .before .args in
+    onScreen (a .s) (a .pass) (at-y .before .luma-x .result .0) (at-y .luma-y .result .0) ≡ true
+shown c = sym (c .before .on-screen .ensures) ∙ c .if1 .taken
+
 cell-index-requires : tie.Need-cell-index-requires
 cell-index-requires c κs =
     let at-y = c .before .before in
     let start = at-y .before .before .before in
-    let a = start .args in
-    let screen = sym (c .before .on-screen .ensures) ∙ c .if1 .taken in
     let x = at-y .before .luma-x .ensures .0 in
     let y = at-y .luma-y .ensures .0 in
-    (start .pre .0, rw (x, y) (seen (a .s) (a .pass) (a .edge) (a .i) (start .pre .1) (start .pre .2) (rw (x, y) at screen)))
+    (start .pre .0, rw (x, y) (seen (start .args .s) (start .args .pass) _ _ (start .pre .1) (start .pre .2) (rw (x, y) at (shown c))))
 
 decide-by-requires : tie.Need-decide-by-requires
 decide-by-requires c κs =
     let at-if = c .before .before .before in
     let at-x = at-if .before .before .before in
-    (at-x .before .before .pre .0, at-x .luma-x .ensures .1, rw (c .unpack .ensures) (cell-fields _), sym (at-if .before .on-screen .ensures) ∙ at-if .if1 .taken)
+    (at-x .before .before .pre .0, at-x .luma-x .ensures .1, rw (c .unpack .ensures) (cell-fields _), shown at-if)
 
 returns : tie.Need-returns
 unfolding decision cellIndex
 returns c =
     let at-index = c .before .before .before in
-    let at-if = at-index .before in
-    let at-y = at-if .before .before in
-    let a = at-y .before .before .before .args in
+    let at-y = at-index .before .before .before in
     let x = at-y .before .luma-x .ensures .0 in
     let y = at-y .luma-y .ensures .0 in
-    rw (← x, ← y, sym (at-if .before .on-screen .ensures) ∙ at-if .if1 .taken, ← at-index .cell-index .ensures .0, ← c .before .unpack .ensures) (c .decide-by .ensures (a .i) x y)
+    rw (← x, ← y, shown (at-index .before), ← at-index .cell-index .ensures .0, ← c .before .unpack .ensures)
+    (c .decide-by .ensures (at-y .before .before .before .args .i) x y)
 
 returns-2 : tie.Need-returns-2
 unfolding decision
 returns-2 c =
     let at-y = c .before .before in
-    rw (← at-y .before .luma-x .ensures .0, ← at-y .luma-y .ensures .0, sym (c .before .on-screen .ensures) ∙ c .if1 .left)
+    rw (← at-y .before .luma-x .ensures .0, ← at-y .luma-y .ensures .0, ← c .before .on-screen .ensures, c .if1 .left)
 
 pub decide-unchecked-spec : {M : Type 1} → statement M
 decide-unchecked-spec =

@@ -1,6 +1,6 @@
 use borrow.Author.Needs.{needs}
 use mathlib.Core.Bool.{Bool}
-use mathlib.Core.Path.{_≡_, sym, ap, _∙_}
+use mathlib.Core.Path.{_≡_, sym, _∙_}
 use Prim.Native.Nat.{ℕ, _-_, _*_, _/_, _%_, _≤_}
 use native.Mathlib.Nat.{sub-self, sub-zero}
 use native.Mathlib.Omega.{arith}
