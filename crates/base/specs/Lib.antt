@@ -8,4 +8,5 @@ pub mod Copied
 pub mod Machine
 pub mod Tests
 pub mod First
+pub mod FirstLaws
 pub mod Depth

@@ -109,22 +109,5 @@ afterwards Window after = refused 12 0
 afterwards (Sample k) after = refused 13 k
 afterwards (Level k) after = refused 14 k
 
--- a refusal is what the call returns, and nothing has changed
-pub refused-answer : (answer : PassAnswer) → (answer ≡ Done → ⊥) → (outcome : Outcome (List ℕ)) (samples : List ℕ) → {after : Outcome (List ℕ)} → outcome ≡ afterwards answer after
-    → Answers outcome (returnedOf answer) samples samples
-refused-answer Done no outcome samples e = absurd (no refl)
-refused-answer Sharpness no outcome samples e = rw e (refl, refl)
-refused-answer Depth no outcome samples e = rw e (refl, refl)
-refused-answer Subsampling no outcome samples e = rw e (refl, refl)
-refused-answer FrameSize no outcome samples e = rw e (refl, refl)
-refused-answer Row no outcome samples e = rw e (refl, refl)
-refused-answer Short no outcome samples e = rw e (refl, refl)
-refused-answer Plane no outcome samples e = rw e (refl, refl)
-refused-answer Column no outcome samples e = rw e (refl, refl)
-refused-answer (Cell k) no outcome samples e = rw e (refl, refl)
-refused-answer Window no outcome samples e = rw e (refl, refl)
-refused-answer (Sample k) no outcome samples e = rw e (refl, refl)
-refused-answer (Level k) no outcome samples e = rw e (refl, refl)
-
 pub done-answer : (outcome : Outcome (List ℕ)) (samples result : List ℕ) → outcome ≡ accepted result → Answers outcome (returnedOf Done) samples result
 done-answer outcome samples result e = rw e (refl, refl)

@@ -50,6 +50,10 @@ unfolding step
 steps-length g t pass [] samples = refl
 steps-length g t pass (p ∷ order) samples = steps-length g t pass order (step g t pass p samples) ∙ applied-length _ samples
 
+pub pass-length : (g : WindowShape) (t : Setting) (pass : Pass) (samples : List ℕ) → length (superblockLoopFilter g t pass samples) ≡ length samples
+unfolding superblockLoopFilter
+pass-length g t pass samples = steps-length g t pass (decided t pass) samples
+
 module _ (g : WindowShape) (t : Setting) (pass : Pass) where
   -- n decided positions of an edge, from i on
   abbrev stripDone : (edge i n : ℕ) → List ℕ → List ℕ

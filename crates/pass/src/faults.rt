@@ -56,11 +56,7 @@ fn sample_bound(depth: u8) -> u16
     requires { ⌜ supported depth ≡ true ⌝ }
     ensures { λ r. ⌜ r ≡ 2 ^ depth ⌝ }
 {
-    match depth {
-        8 => 256,
-        10 => 1024,
-        _ => 4096,
-    }
+    1u16 << depth
 }
 
 // Refusals 1 to 10, of a row with so many cells lent.

@@ -5,8 +5,9 @@ use Prim.Native.Nat.{_-_, _*_, _≤_}
 use native.Mathlib.Nat.{mul-le-mul}
 use native.Mathlib.Omega.{arith}
 use Rattle.base.specs.First.{found, first-small}
+use Rattle.base.specs.FirstLaws.{first-nowhere}
 use Rattle.window.specs.Window.{badSample, reaches}
-use Rattle.window.specs.SampleLaws.{row-room, rows-none, rows-more, rows-first, first-nowhere, samples-small}
+use Rattle.window.specs.SampleLaws.{row-room, rows-none, rows-more, rows-first, samples-small}
 use Rattle.window.proofs.first_bad_sample_unchecked.Statement.{statement}
 use Rattle.window.proofs.first_bad_sample_unchecked.Tie as tie
 
