@@ -5,6 +5,7 @@ mod cell;
 mod edge;
 mod levels;
 mod line;
+mod pass;
 mod row;
 mod strength;
 
@@ -12,6 +13,7 @@ pub use cell::{Cell, cell};
 pub use edge::{EdgeFacts, Position, edge, edge_returned};
 pub use levels::{Lists, LoopFilter, Segmentation, level_table, level_table_into};
 pub use line::line;
+pub use pass::{Superblock, Window, pass, pass_returned};
 pub use row::{Frame, ModeInfo, row, row_returned};
 pub use strength::{Strength, mode_type, strength, strength_returned};
 

@@ -1,0 +1,71 @@
+//! The pass over a superblock of a plane.
+
+use crate::{Frame, Refused, Returned, c};
+
+/// The window of a plane that is lent: `height` rows of `width` samples, their starts `stride` apart, from row
+/// `y_origin` of the plane on. Its column 0 is the plane's. What lies between `width` and `stride` is not its own.
+#[derive(Debug, Clone, Copy, PartialEq, Eq)]
+pub struct Window {
+    pub width: usize,
+    pub height: usize,
+    pub stride: usize,
+    pub y_origin: usize,
+}
+
+/// A superblock of a plane, and which of its edges are filtered.
+#[derive(Debug, Clone, Copy, PartialEq, Eq)]
+pub struct Superblock {
+    /// Its first row and column, in 8-sample blocks.
+    pub row: usize,
+    pub col: usize,
+    /// 0 for luma, 1 and 2 for chroma.
+    pub plane: u8,
+    /// 0 for vertical edges, 1 for horizontal ones.
+    pub pass: u8,
+}
+
+/// Filters the edges of a superblock, in place. `cells` are those of its superblock row, from the row's first cell on.
+#[inline]
+pub fn pass(
+    samples: &mut [u16],
+    window: &Window,
+    cells: &[u32],
+    frame: &Frame,
+    at: &Superblock,
+) -> Result<(), Refused> {
+    pass_returned(samples, window, cells, frame, at).accepted()
+}
+
+/// The same, as the C function gives it.
+#[inline]
+pub fn pass_returned(
+    samples: &mut [u16],
+    window: &Window,
+    cells: &[u32],
+    frame: &Frame,
+    at: &Superblock,
+) -> Returned {
+    // SAFETY: each pointer goes with the length of its own slice.
+    unsafe {
+        c::springspade_pass(
+            samples.as_mut_ptr(),
+            samples.len(),
+            cells.as_ptr(),
+            cells.len(),
+            frame.sharpness,
+            frame.depth,
+            frame.sub_x,
+            frame.sub_y,
+            frame.mi_cols,
+            frame.mi_rows,
+            at.row,
+            at.col,
+            at.plane,
+            at.pass,
+            window.width,
+            window.height,
+            window.stride,
+            window.y_origin,
+        )
+    }
+}
