@@ -5,6 +5,9 @@ pub mod cells;
 pub mod edges;
 pub mod libvpx;
 pub mod lines;
+pub mod passes;
+pub mod positions;
+pub mod quiet;
 pub mod random;
 pub mod rows;
 #[cfg(oracle)]

@@ -112,7 +112,7 @@ fn edge(random: &mut Random, depth: u8, strength: Strength) -> [i64; 16] {
 }
 
 /// From `-most` to `most`, both ends often.
-fn within(random: &mut Random, most: i64) -> i64 {
+pub fn within(random: &mut Random, most: i64) -> i64 {
     match random.between(0, 7) {
         0 => -most,
         1 => most,

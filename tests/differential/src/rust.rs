@@ -1,5 +1,9 @@
 //! The Rust's answers.
 
+mod pass;
+
+pub use pass::{cells, over, pass, pass_lists};
+
 use crate::{cases::Case, lines::Line, rows::Row};
 use oracle::filter_size::filter_size;
 use oracle::header::{LoopFilterParams, SegmentationParams};

@@ -1,0 +1,116 @@
+//! Arguments of a pass, random ones among them.
+
+mod samples;
+mod windows;
+mod words;
+
+use crate::random::Random;
+use crate::rows::superblock;
+use springspade::{Frame, Returned, Superblock, Window, pass_returned};
+
+#[derive(Debug, Clone, PartialEq, Eq)]
+pub struct Pass {
+    pub frame: Frame,
+    pub at: Superblock,
+    /// Of the superblock row. More may stand behind its cells.
+    pub cells: Vec<u32>,
+    pub window: Window,
+    /// All that is lent: also what lies between the window's rows and behind it.
+    pub samples: Vec<u16>,
+}
+
+/// Stands before and behind what is lent. No depth has such a sample.
+const GUARD: [u16; 64] = [0xbeef; 64];
+
+impl Pass {
+    /// A random pass, refused for nothing but a cell without level.
+    pub fn random(random: &mut Random) -> Pass {
+        let frame = frame(random);
+        let row = superblock(random, frame.mi_rows);
+        let cells = words::random(random, &frame, row);
+        Pass::over(random, frame, row, cells)
+    }
+
+    /// A random superblock, plane and window over the cells of a superblock row.
+    pub fn over(random: &mut Random, frame: Frame, row: usize, cells: Vec<u32>) -> Pass {
+        let at = Superblock {
+            row,
+            col: superblock(random, frame.mi_cols),
+            plane: random.between(0, 2) as u8,
+            pass: random.flag().into(),
+        };
+        let window = windows::random(random, &frame, &at);
+        let level = words::level(random.one_of(&cells[..row_cells(&frame, row)]));
+        let strength = springspade::strength(level, frame.sharpness).unwrap();
+        let samples = samples::random(random, &window, frame.depth, strength);
+        Pass { frame, at, cells, window, samples }
+    }
+
+    /// How many cells the superblock row has.
+    pub fn row_cells(&self) -> usize {
+        row_cells(&self.frame, self.at.row)
+    }
+
+    /// The subsampling that holds in the plane.
+    pub fn subsampling(&self) -> (u8, u8) {
+        subsampling(&self.frame, self.at.plane)
+    }
+
+    /// What ours returns, and the lent samples after it. Those beside them are left.
+    pub fn ours(&self) -> (Returned, Vec<u16>) {
+        let mut memory = [&GUARD[..], &self.samples, &GUARD].concat();
+        let lent = GUARD.len()..GUARD.len() + self.samples.len();
+        let samples = &mut memory[lent.clone()];
+        let returned = pass_returned(samples, &self.window, &self.cells, &self.frame, &self.at);
+        assert_eq!(memory[..lent.start], GUARD, "before the samples, {}", self.call());
+        assert_eq!(memory[lent.end..], GUARD, "behind the samples, {}", self.call());
+        (returned, memory[lent].to_vec())
+    }
+
+    /// The call without its lists, for messages.
+    pub fn call(&self) -> String {
+        let Pass { frame, at, window, cells, samples } = self;
+        let lent = format!("{} cells, {} samples", cells.len(), samples.len());
+        format!("{frame:?}, {at:?}, {window:?}, {lent}")
+    }
+
+    /// Where two lists of the lent samples differ, and how, for messages.
+    pub fn difference(&self, a: &[u16], b: &[u16]) -> String {
+        let Some(k) = (0..a.len()).find(|&k| a[k] != b[k]) else {
+            return "none".to_string();
+        };
+        let Window { stride, y_origin, .. } = self.window;
+        let (x, y) = (k % stride, y_origin + k / stride);
+        format!("sample {x}, {y} was {}: {} and {}, {}", self.samples[k], a[k], b[k], self.call())
+    }
+}
+
+pub fn row_cells(frame: &Frame, row: usize) -> usize {
+    frame.mi_rows.saturating_sub(row).min(8) * frame.mi_cols
+}
+
+/// Plane 0 counts as not subsampled.
+pub fn subsampling(frame: &Frame, plane: u8) -> (u8, u8) {
+    if plane == 0 { (0, 0) } else { (frame.sub_x, frame.sub_y) }
+}
+
+fn frame(random: &mut Random) -> Frame {
+    Frame {
+        sharpness: random.one_of(&[0, 0, 0, 1, 2, 3, 4, 5, 6, 7]),
+        depth: random.one_of(&[8, 10, 12]),
+        sub_x: random.flag().into(),
+        sub_y: random.flag().into(),
+        // A row as long as it can be takes a thousand times as long as others.
+        mi_cols: mi_count(random, 999),
+        mi_rows: mi_count(random, 19),
+    }
+}
+
+/// `mi_cols` or `mi_rows`: what ends inside one of three superblocks, the greatest once in so many.
+fn mi_count(random: &mut Random, others: i64) -> usize {
+    match random.between(0, others) {
+        0 => random.one_of(&[8184, 8185, 8191, 8192]),
+        _ if random.flag() => random.one_of(&[1, 2, 3, 7, 8, 9, 15, 16, 17]),
+        _ => random.between(1, 20) as usize,
+    }
+}
