@@ -1,6 +1,7 @@
 //! Arguments of a pass, random ones among them.
 
 mod samples;
+pub mod small;
 mod windows;
 mod words;
 
@@ -27,7 +28,9 @@ impl Pass {
     pub fn random(random: &mut Random) -> Pass {
         let frame = frame(random);
         let row = superblock(random, frame.mi_rows);
-        let cells = words::random(random, &frame, row);
+        // Of so many cells one has no level.
+        let absent = random.one_of(&[0, 0, 0, 0, 0, 0, 0, 2, 20, 100]);
+        let cells = words::random(random, &frame, row, absent);
         Pass::over(random, frame, row, cells)
     }
 
@@ -40,7 +43,24 @@ impl Pass {
             pass: random.flag().into(),
         };
         let window = windows::random(random, &frame, &at);
-        let level = words::level(random.one_of(&cells[..row_cells(&frame, row)]));
+        Pass::lent(random, frame, at, cells, window)
+    }
+
+    /// Random cells with level, and random samples.
+    pub fn accepted(random: &mut Random, frame: Frame, at: Superblock, window: Window) -> Pass {
+        let cells = words::random(random, &frame, at.row, 0);
+        Pass::lent(random, frame, at, cells, window)
+    }
+
+    /// Random samples, made for the level of one of the cells.
+    fn lent(
+        random: &mut Random,
+        frame: Frame,
+        at: Superblock,
+        cells: Vec<u32>,
+        window: Window,
+    ) -> Pass {
+        let level = words::level(random.one_of(&cells[..row_cells(&frame, at.row)]));
         let strength = springspade::strength(level, frame.sharpness).unwrap();
         let samples = samples::random(random, &window, frame.depth, strength);
         Pass { frame, at, cells, window, samples }
@@ -110,7 +130,7 @@ fn frame(random: &mut Random) -> Frame {
 fn mi_count(random: &mut Random, others: i64) -> usize {
     match random.between(0, others) {
         0 => random.one_of(&[8184, 8185, 8191, 8192]),
-        _ if random.flag() => random.one_of(&[1, 2, 3, 7, 8, 9, 15, 16, 17]),
+        _ if random.flag() => random.one_of(&[1, 2, 3, 5, 7, 8, 9, 15, 16, 17]),
         _ => random.between(1, 20) as usize,
     }
 }

@@ -46,7 +46,7 @@ fn position(pass: &Pass, edge: usize, i: usize) -> Option<Position> {
     let is_block_edge = luma % if vertical { width } else { height } == 0;
     let last_column = x / 8 == mi_cols - 1;
     let has_none = !vertical && sub_x == 1 && mi_cols % 2 == 1 && edge % 2 == 1 && last_column;
-    let is_transform_edge = !has_none && edge % (1 << transform) == 0;
+    let is_transform_edge = !has_none && edge.is_multiple_of(1 << transform);
     if !is_block_edge && (!is_transform_edge || cell.skipped) {
         return None;
     }
@@ -105,4 +105,11 @@ pub fn step(pass: &Pass, samples: &mut [u16], at: &Position) {
             samples[row * pass.window.stride + x] = sample;
         }
     }
+}
+
+/// The lent samples after the steps of all decided positions, edge by edge.
+pub fn filtered(pass: &Pass) -> Vec<u16> {
+    let mut samples = pass.samples.clone();
+    decided(pass).iter().for_each(|at| step(pass, &mut samples, at));
+    samples
 }

@@ -14,8 +14,8 @@ pub fn level(word: u32) -> u8 {
     (word >> 12 & 63) as u8
 }
 
-/// The words of a row, and now and then one that is refused behind them.
-pub fn random(random: &mut Random, frame: &Frame, row: usize) -> Vec<u32> {
+/// The words of a row, and now and then one that is refused behind them. One in `absent` has no level.
+pub fn random(random: &mut Random, frame: &Frame, row: usize, absent: i64) -> Vec<u32> {
     let count = super::row_cells(frame, row);
     let mut words = match random.between(0, 3) {
         0 => made(random, *frame, row),
@@ -26,7 +26,7 @@ pub fn random(random: &mut Random, frame: &Frame, row: usize) -> Vec<u32> {
         }
         _ => (0..count).map(|_| word(random)).collect(),
     };
-    set_levels(random, &mut words);
+    set_levels(random, &mut words, absent);
     words.extend((0..random.between(-6, 2)).map(|_| u32::MAX));
     words
 }
@@ -45,11 +45,9 @@ fn made(random: &mut Random, frame: Frame, base: usize) -> Vec<u32> {
     words
 }
 
-/// Gives the cells one of three levels each, and to some of them none.
-fn set_levels(random: &mut Random, words: &mut [u32]) {
+/// Gives the cells one of three levels each, and to one in `absent` of them none.
+fn set_levels(random: &mut Random, words: &mut [u32], absent: i64) {
     let levels = [(); 3].map(|()| level_of_row(random));
-    // Of so many cells one has no level.
-    let absent = random.one_of(&[0, 0, 0, 0, 0, 0, 0, 2, 20, 100]);
     for word in words.iter_mut() {
         let is_absent = absent > 0 && random.between(1, absent) == 1;
         let level = if is_absent { 0 } else { PRESENT | random.one_of(&levels) << 12 };

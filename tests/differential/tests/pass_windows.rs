@@ -1,0 +1,146 @@
+//! Windows of the pass: shapes and samples that just pass and that just do not, and the largest that do.
+
+use differential::passes::Pass;
+use differential::passes::small::{LARGE, accepted, refused, small, with};
+use differential::random::Random;
+use springspade::{Frame, Superblock, Window};
+
+/// Samples for a window, one more or fewer than it needs.
+fn lent(window: Window, more: isize) -> Pass {
+    let needed = (window.height - 1) * window.stride + window.width;
+    let samples = vec![9; needed.strict_add_signed(more)];
+    Pass { window, samples, ..small() }
+}
+
+#[test]
+fn shapes() {
+    let whole = Window { width: 44, height: 16, stride: 50, y_origin: 24 };
+    for (width, stride) in [(1, 1), (1, 131_072), (65_536, 65_536), (65_536, 131_072)] {
+        for (height, y_origin) in [(1, 0), (2, 40), (1, 65_535), (2, 65_534)] {
+            let window = Window { width, height, stride, y_origin };
+            accepted(&lent(window, 0));
+            accepted(&lent(window, 1));
+            refused(&lent(window, -1), 12, 0);
+        }
+    }
+    for height in [65_535, 65_536] {
+        for width in [1, 3] {
+            let window = Window { width, height, stride: width, y_origin: 65_536 - height };
+            accepted(&lent(window, 0));
+            refused(&lent(window, -1), 12, 0);
+        }
+    }
+    let width = |width| Window { width, stride: width, ..whole };
+    let height = |height| Window { height, y_origin: 65_537usize.saturating_sub(height), ..whole };
+    let stride = |stride| Window { stride, ..whole };
+    let y_origin = |y_origin| Window { y_origin, ..whole };
+    let numbers = [65_537, 131_072, 131_073, usize::MAX, usize::MAX - 15].into_iter().chain(LARGE);
+    for number in numbers {
+        refused(&with(|pass| pass.window = width(number)), 12, 0);
+        refused(&with(|pass| pass.window = Window { width: number, ..whole }), 12, 0);
+        refused(&with(|pass| pass.window = height(number)), 12, 0);
+        refused(&with(|pass| pass.window = y_origin(number)), 12, 0);
+        refused(&with(|pass| pass.window = stride(number.max(131_073))), 12, 0);
+        let y_origin = number.wrapping_sub(65_536).wrapping_neg();
+        refused(&with(|pass| pass.window = Window { height: number, y_origin, ..whole }), 12, 0);
+    }
+    for window in [width(0), height(0), stride(0), stride(43), y_origin(65_521), y_origin(65_536)] {
+        refused(&with(|pass| pass.window = window), 12, 0);
+    }
+    accepted(&with(|pass| pass.window = y_origin(65_520)));
+    accepted(&lent(stride(44), 0));
+}
+
+/// The samples that a window needs are counted in more than 32 bits.
+#[test]
+fn many_samples() {
+    for (height, stride) in
+        [(32_769, 131_072), (65_536, 131_072), (65_536, 65_537), (49_153, 87_384)]
+    {
+        for width in [1, 44, 65_536] {
+            let window = Window { width, height, stride, y_origin: 0 };
+            refused(&with(|pass| pass.window = window), 12, 0);
+            let samples = vec![9; 1 << 20];
+            refused(&Pass { window, samples, ..small() }, 12, 0);
+        }
+    }
+}
+
+/// Every sample of the window counts, also where nothing is decided; no other does.
+#[test]
+fn samples() {
+    let good = with(|pass| pass.samples.extend([0; 70]));
+    for (depth, top) in [(8, 255), (10, 1023), (12, 4095)] {
+        let one = |k: usize, sample: u16| {
+            let mut pass = good.clone();
+            pass.frame.depth = depth;
+            pass.samples[k] = sample;
+            pass
+        };
+        for k in 0..good.samples.len() {
+            let (row, column) = (k / 50, k % 50);
+            if row >= 16 || column >= 44 {
+                accepted(&one(k, 65535));
+                continue;
+            }
+            let place = (44 * row + column) as u32;
+            accepted(&one(k, top));
+            for sample in [top + 1, 32768, 65535] {
+                refused(&one(k, sample), 13, place);
+            }
+            let mut behind = one(k, top + 1);
+            behind.samples[k..].fill(65535);
+            refused(&behind, 13, place);
+        }
+    }
+}
+
+#[test]
+fn places_of_samples() {
+    let window = Window { width: 65_536, height: 4, stride: 65_600, y_origin: 65_500 };
+    let mut pass = lent(window, 0);
+    for (row, column) in [(3, 65_535), (3, 0), (2, 1), (0, 65_535), (0, 0)] {
+        pass.samples[row * 65_600 + column] = 4096;
+        refused(&pass, 13, (row * 65_536 + column) as u32);
+    }
+    let window = Window { width: 3, height: 65_536, stride: 4, y_origin: 0 };
+    let mut pass = lent(window, 0);
+    for row in [65_535, 40_000, 1] {
+        pass.samples[4 * row + 2] = 4096;
+        refused(&pass, 13, (3 * row + 2) as u32);
+    }
+}
+
+/// Windows and frames as large as they are accepted, and as small.
+#[test]
+fn limits() {
+    let mut random = Random(32);
+    let frame = Frame { sharpness: 0, depth: 8, sub_x: 0, sub_y: 0, mi_cols: 8192, mi_rows: 8192 };
+    let narrow = Frame { mi_cols: 2, ..frame };
+    let last = Superblock { row: 8184, col: 8184, plane: 0, pass: 0 };
+    let left = Superblock { col: 0, ..last };
+    let window = |width, height, stride| {
+        let y_origin = 65_536 - height;
+        Window { width, height, stride, y_origin }
+    };
+    let one = Window { width: 1, height: 1, stride: 1, y_origin: 0 };
+    let first = Superblock { row: 0, col: 0, ..last };
+    for pass in [0, 1] {
+        for (frame, at, window) in [
+            (frame, last, window(65_536, 72, 65_536)),
+            (frame, last, window(65_536, 2, 131_072)),
+            (frame, last, window(65_536, 1, 131_072)),
+            (narrow, left, window(16, 65_536, 16)),
+            (narrow, left, window(1, 65_536, 1)),
+            (narrow, left, window(12, 1, 131_072)),
+            (narrow, left, one),
+            (narrow, first, window(12, 65_536, 13)),
+            (Frame { mi_cols: 1, mi_rows: 1, ..frame }, first, one),
+        ] {
+            for depth in [8, 12] {
+                let (frame, at) = (Frame { depth, ..frame }, Superblock { pass, ..at });
+                accepted(&Pass::accepted(&mut random, frame, at, window));
+            }
+        }
+    }
+}
