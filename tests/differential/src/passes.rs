@@ -1,5 +1,6 @@
 //! Arguments of a pass, random ones among them.
 
+pub mod reached;
 mod samples;
 pub mod small;
 mod windows;

@@ -15,9 +15,16 @@
 //! is_block_edge, is_tx_edge, is_32_edge, on_screen, apply_filter, size.
 //! In these two mi_cols, mi_rows, base, row, col, edge and i have two bytes, references, cells, x, y,
 //! loop_col and loop_row four, the lowest first; all else has one.
+//! passes.bin: records of 2,728 bytes, numbers with the lowest byte first. One byte each: sharpness,
+//! depth, sub_x, sub_y, plane, pass, the refusal's number or 0, how many cells are lent. From byte 8 on
+//! two each: mi_cols, mi_rows, row, col. From 16 on four each: width, height, stride, y_origin, how many
+//! samples are lent, the refusal's place. From 40 on 32 cells of four bytes, from 168 on 640 samples
+//! before and from 1,448 on 640 samples after, of two bytes; cells and samples that are not lent are 0.
 
 #[cfg(oracle)]
 mod edges;
+#[cfg(oracle)]
+mod passes;
 #[cfg(oracle)]
 mod rows;
 
@@ -26,7 +33,7 @@ use crate::{cases::Case, libvpx};
 use std::collections::HashSet;
 
 /// Name and contents of each file; no contents where its source is not at hand.
-pub fn files() -> [(&'static str, Option<Vec<u8>>); 6] {
+pub fn files() -> [(&'static str, Option<Vec<u8>>); 7] {
     let folder = libvpx::folder();
     let (rows, edges) = folder.as_deref().and_then(rows_and_edges).unzip();
     [
@@ -36,6 +43,7 @@ pub fn files() -> [(&'static str, Option<Vec<u8>>); 6] {
         ("lines.bin", folder.as_deref().map(lines)),
         ("rows.bin", rows),
         ("edges.bin", edges),
+        ("passes.bin", passes()),
     ]
 }
 
@@ -47,6 +55,16 @@ fn rows_and_edges(_: &std::path::Path) -> Option<(Vec<u8>, Vec<u8>)> {
 #[cfg(oracle)]
 fn rows_and_edges(folder: &std::path::Path) -> Option<(Vec<u8>, Vec<u8>)> {
     Some((rows::contents(folder), edges::contents(folder)))
+}
+
+#[cfg(not(oracle))]
+fn passes() -> Option<Vec<u8>> {
+    None
+}
+
+#[cfg(oracle)]
+fn passes() -> Option<Vec<u8>> {
+    Some(passes::contents())
 }
 
 #[cfg(not(oracle))]

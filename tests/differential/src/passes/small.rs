@@ -12,10 +12,10 @@ pub const LARGE: [usize; 3] = [1 << 32, (1 << 32) + 8, usize::MAX - 7];
 pub fn small() -> Pass {
     let frame = Frame { sharpness: 7, depth: 12, sub_x: 1, sub_y: 1, mi_cols: 11, mi_rows: 10 };
     let at = Superblock { row: 8, col: 8, plane: 2, pass: 1 };
-    let window = Window { width: 44, height: 16, stride: 50, y_origin: 24 };
+    let window = Window { width: 44, height: 12, stride: 50, y_origin: 24 };
     let mut pass = Pass::accepted(&mut Random(28), frame, at, window);
     // Samples of every depth, and as many as the window needs.
-    pass.samples.truncate(15 * 50 + 44);
+    pass.samples.truncate(11 * 50 + 44);
     pass.samples.iter_mut().for_each(|sample| *sample %= 256);
     pass.cells.truncate(22);
     pass
