@@ -9,6 +9,8 @@ mod levels;
 #[cfg(oracle)]
 mod lines;
 #[cfg(oracle)]
+mod passes;
+#[cfg(oracle)]
 mod row;
 
 #[cfg(not(oracle))]
@@ -23,4 +25,5 @@ fn main() {
     lines::rows();
     cells::rows();
     edges::rows();
+    passes::rows();
 }
