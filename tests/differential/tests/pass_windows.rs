@@ -12,9 +12,9 @@ fn lent(window: Window, more: isize) -> Pass {
     Pass { window, samples, ..small() }
 }
 
+/// The largest and the smallest, lent as many samples as they need, one more and one fewer.
 #[test]
-fn shapes() {
-    let whole = small().window;
+fn shapes_accepted() {
     for (width, stride) in [(1, 1), (1, 131_072), (65_536, 65_536), (65_536, 131_072)] {
         for (height, y_origin) in [(1, 0), (2, 40), (1, 65_535), (2, 65_534)] {
             let window = Window { width, height, stride, y_origin };
@@ -30,25 +30,50 @@ fn shapes() {
             refused(&lent(window, -1), 12, 0);
         }
     }
-    let width = |width| Window { width, stride: width, ..whole };
-    let height = |height| Window { height, y_origin: 65_537usize.saturating_sub(height), ..whole };
-    let stride = |stride| Window { stride, ..whole };
-    let y_origin = |y_origin| Window { y_origin, ..whole };
-    let numbers = [65_537, 131_072, 131_073, usize::MAX, usize::MAX - 11].into_iter().chain(LARGE);
-    for number in numbers {
-        refused(&with(|pass| pass.window = width(number)), 12, 0);
-        refused(&with(|pass| pass.window = Window { width: number, ..whole }), 12, 0);
-        refused(&with(|pass| pass.window = height(number)), 12, 0);
-        refused(&with(|pass| pass.window = y_origin(number)), 12, 0);
-        refused(&with(|pass| pass.window = stride(number.max(131_073))), 12, 0);
-        let y_origin = number.wrapping_sub(65_536).wrapping_neg();
-        refused(&with(|pass| pass.window = Window { height: number, y_origin, ..whole }), 12, 0);
+}
+
+/// One more than the largest or one less than the smallest, lent as many samples as it would need.
+#[test]
+fn shapes_refused() {
+    for (width, height, stride, y_origin) in [
+        (0, 2, 1, 0),
+        (65_537, 1, 65_537, 0),
+        (65_537, 2, 131_072, 0),
+        (1, 1, 131_073, 0),
+        (1, 2, 131_073, 0),
+        (1, 1, 0, 0),
+        (44, 12, 43, 24),
+        (65_536, 1, 65_535, 0),
+        (1, 65_537, 1, 0),
+        (1, 65_536, 1, 1),
+        (44, 12, 44, 65_525),
+        (1, 2, 1, 65_535),
+        (1, 1, 1, 65_536),
+    ] {
+        refused(&lent(Window { width, height, stride, y_origin }, 0), 12, 0);
     }
-    for window in [width(0), height(0), stride(0), stride(43), y_origin(65_525), y_origin(65_536)] {
-        refused(&with(|pass| pass.window = window), 12, 0);
+    refused(&with(|pass| pass.window.height = 0), 12, 0);
+    accepted(&lent(Window { stride: 44, y_origin: 65_524, ..small().window }, 0));
+}
+
+/// Numbers with which a sum or a product of fewer bits would pass.
+#[test]
+fn shapes_too_large() {
+    let whole = small().window;
+    for number in [131_074, usize::MAX, usize::MAX - 11].into_iter().chain(LARGE) {
+        for window in [
+            Window { width: number, ..whole },
+            Window { width: number, stride: number, ..whole },
+            Window { height: number, ..whole },
+            Window { height: number, y_origin: 65_536usize.wrapping_sub(number), ..whole },
+            Window { stride: number, ..whole },
+            Window { height: 1, stride: number, ..whole },
+            Window { y_origin: number, ..whole },
+            Window { y_origin: number, height: 1, ..whole },
+        ] {
+            refused(&with(|pass| pass.window = window), 12, 0);
+        }
     }
-    accepted(&with(|pass| pass.window = y_origin(65_524)));
-    accepted(&lent(stride(44), 0));
 }
 
 /// The samples that a window needs are counted in more than 32 bits.
