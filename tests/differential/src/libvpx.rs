@@ -3,7 +3,7 @@
 mod frame;
 
 use crate::lines::Line;
-pub use frame::{Cell, Frame, OPEN};
+pub use frame::{Cell, Frame, OPEN, plane_size};
 use springspade::Strength;
 use std::path::{Path, PathBuf};
 use std::process::Command;

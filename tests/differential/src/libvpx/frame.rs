@@ -1,6 +1,7 @@
 //! A frame around libvpx's loop filter: an `.lfd` file.
 
 use crate::cases::{Case, LEVEL_40, SEG_LVL_ALT_L};
+use crate::passes::subsampling;
 use crate::rows::{Block, Row};
 use springspade::Position;
 use std::{array, fs, path::Path};
@@ -12,6 +13,9 @@ pub struct Frame {
     pub frame: springspade::Frame,
     /// In raster order.
     pub cells: Vec<Cell>,
+    /// The planes before the filter and after it, row by row.
+    pub before: [Vec<u16>; 3],
+    pub after: [Vec<u16>; 3],
     /// By plane and pass.
     calls: [[Vec<u8>; 2]; 3],
 }
@@ -72,14 +76,14 @@ impl Frame {
             let (width, height) = plane_size(&frame, plane);
             width * height
         });
-        // The planes before and after the filter, of two bytes a sample.
-        rest = &rest[4 * samples.iter().sum::<usize>()..];
+        let mut planes = || samples.map(|samples| plane(rest.split_off(..2 * samples).unwrap()));
+        let (before, after) = (planes(), planes());
         let calls = samples.map(|samples| {
             // Of four samples across an edge one is its own.
             [(); 2].map(|()| rest.split_off(..samples / 4).unwrap().to_vec())
         });
         assert!(rest.is_empty(), "{name}");
-        Some(Frame { name, case, levels, frame, cells, calls })
+        Some(Frame { name, case, levels, frame, cells, before, after, calls })
     }
 
     /// The rows from `base` on.
@@ -137,11 +141,12 @@ fn cell(bytes: &[u8; 8]) -> Cell {
     Cell { block: Block { mi_size, tx_size, skip, ref_frame, y_mode, segment_id }, level, uvtx }
 }
 
-fn subsampling(frame: &springspade::Frame, plane: u8) -> (u8, u8) {
-    if plane == 0 { (0, 0) } else { (frame.sub_x, frame.sub_y) }
+fn plane(bytes: &[u8]) -> Vec<u16> {
+    bytes.as_chunks().0.iter().map(|&sample| u16::from_le_bytes(sample)).collect()
 }
 
-fn plane_size(frame: &springspade::Frame, plane: u8) -> (usize, usize) {
+/// Width and height of a plane.
+pub fn plane_size(frame: &springspade::Frame, plane: u8) -> (usize, usize) {
     let (sub_x, sub_y) = subsampling(frame, plane);
     ((8 * frame.mi_cols) >> sub_x, (8 * frame.mi_rows) >> sub_y)
 }

@@ -91,7 +91,7 @@ fn samples(random: &mut Random, y: usize, width: usize, depth: u8, kind: &str) -
     let sample = |x: usize| {
         let is_smooth = kind == "smooth" || kind == "mixed" && (x / 32 + y / 32) % 2 == 0;
         let eight =
-            if is_smooth { 90 + (x / 16 + y / 16) as i64 % 40 } else { random.between(0, 255) };
+            if is_smooth { 90 + (x / 16 + y / 16) as i64 % 40 } else { random.between(0, 254) };
         (eight << (depth - 8)) as u16 + u16::from(random.flag())
     };
     (0..width).map(sample).collect()
