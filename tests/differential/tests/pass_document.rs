@@ -128,7 +128,7 @@ fn p_side_alone() {
     assert_eq!(filtered(&row, &window, [CASE_S; 2]), after);
 }
 
-/// Of 12 columns q0 to q3 are the window's; what is read for q4 to q7 is q3, and feeds all that is written.
+/// Of 12 columns q0 to q3 are the window's. For q4 to q7 the last is read, which feeds what is written.
 #[test]
 fn window_of_12_columns() {
     let window = Window { width: 12, height: 8, stride: 12, y_origin: 0 };

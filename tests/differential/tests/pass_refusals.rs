@@ -153,13 +153,12 @@ fn words_behind_the_cells() {
     }
 }
 
-/// Any twenty bits are a cell, the level 0 where it is absent. Cells that no position reads have no level.
+/// Any twenty bits are a cell, if the level is 0 where it is absent. No position reads the first.
 #[test]
 fn words_accepted() {
     for present in [0, 1 << 18, 1 << 18 | 1 << 12, 1 << 18 | 63 << 12] {
         for fields in 0..=0x1fff {
             let word = fields << 19 | present;
-            // Of the last superblock's columns none is the first.
             accepted(&with(|pass| pass.cells[0] = word));
             if present != 0 && fields % 16 == 0 {
                 accepted(&with(|pass| pass.cells.fill(word)));

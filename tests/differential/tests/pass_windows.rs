@@ -1,4 +1,4 @@
-//! Windows of the pass: shapes and samples that just pass and that just do not, and the largest that do.
+//! Windows of the pass: shapes and samples that just pass, and that just do not.
 
 use differential::passes::Pass;
 use differential::passes::small::{LARGE, accepted, refused, small, with};

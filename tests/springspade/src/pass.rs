@@ -2,8 +2,8 @@
 
 use crate::{Frame, Refused, Returned, c};
 
-/// The window of a plane that is lent: `height` rows of `width` samples, their starts `stride` apart, from row
-/// `y_origin` of the plane on. Its column 0 is the plane's. What lies between `width` and `stride` is not its own.
+/// The part of a plane that is lent: rows from `y_origin` on, their starts `stride` samples apart.
+/// Its column 0 is the plane's. What lies between `width` and `stride` is neither tested nor written.
 #[derive(Debug, Clone, Copy, PartialEq, Eq)]
 pub struct Window {
     pub width: usize,
@@ -24,7 +24,8 @@ pub struct Superblock {
     pub pass: u8,
 }
 
-/// Filters the edges of a superblock, in place. `cells` are those of its superblock row, from the row's first cell on.
+/// Filters the edges of a superblock, in place. `cells` are those of its superblock row, which
+/// `row` makes.
 #[inline]
 pub fn pass(
     samples: &mut [u16],

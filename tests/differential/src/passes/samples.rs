@@ -45,7 +45,7 @@ fn tiles(random: &mut Random, window: &Window, depth: u8, strength: Strength) ->
         1 => random.between(top - 16, top),
         _ => random.between(0, top),
     };
-    // blimit allows 2/5 of it between two flat sides, half of it between two squares.
+    // blimit allows a step of 2/5 of it between flat sides; each square takes half of that.
     let step = random.one_of(&[0, one, scaled(strength.blimit) / 5, top]);
     let away = [0, 0, 1, one, one, scaled(strength.thresh), scaled(strength.limit), top];
     // A square has one of two kinds; often both are the same.

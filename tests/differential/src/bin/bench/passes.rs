@@ -89,7 +89,7 @@ fn window(frame: &Frame, plane: u8) -> Window {
 /// One row of samples: nearly flat, any, or either by turns of 32.
 fn samples(random: &mut Random, y: usize, width: usize, depth: u8, kind: &str) -> Vec<u16> {
     let sample = |x: usize| {
-        let is_smooth = kind == "smooth" || kind == "mixed" && (x / 32 + y / 32) % 2 == 0;
+        let is_smooth = kind == "smooth" || kind == "mixed" && (x / 32 + y / 32).is_multiple_of(2);
         let eight =
             if is_smooth { 90 + (x / 16 + y / 16) as i64 % 40 } else { random.between(0, 254) };
         (eight << (depth - 8)) as u16 + u16::from(random.flag())
