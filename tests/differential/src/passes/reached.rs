@@ -52,6 +52,10 @@ fn frames(reached: &mut Reached, pass: &Pass, positions: &[Position]) {
     let first = positions.iter().find(|at| !at.cell.present);
     reached.count("without level", first.is_some());
     reached.count("without level, outside the window", first.is_some_and(outside));
+    let (sub_x, sub_y) = pass.subsampling();
+    let halved = if at.pass == 0 { sub_y } else { sub_x } == 1;
+    let late = first.is_some_and(|at| at.edge > 0);
+    reached.count("without level, at a later edge of 32 positions", halved && late);
 }
 
 /// Whether the rule of odd mi_cols takes an edge away from a cell of the last column.
@@ -94,7 +98,10 @@ fn line(reached: &mut Reached, pass: &Pass, samples: &mut [u16], at: &Position) 
     reached.count("p side cut by the window", p0 && !inside[0] && (0..8).any(changed));
     reached.count("q side cut by the window", q0 && !inside[15] && (8..16).any(changed));
     let wide = arm == Arm::Fourteen && (0..16).any(changed);
-    reached.count("fourteen, a tap past the window", wide && inside.contains(&false));
+    let [p7, q7] = [inside[0], inside[15]];
+    let side = if pass.at.pass == 0 { ["left of", "right of"] } else { ["above", "below"] };
+    reached.count(&format!("fourteen, p7 {} the window", side[0]), wide && !p7);
+    reached.count(&format!("fourteen, q7 {} the window", side[1]), wide && !q7);
     let top = (1 << depth) - 1;
     reached.count("a changed sample at an end of its range", {
         (0..16).any(|k| changed(k) && (after[k] == 0 || after[k] == top))

@@ -17,7 +17,7 @@ const SAMPLES: usize = 640;
 const OFTEN: usize = 2;
 
 /// Of so many random passes.
-const CANDIDATES: usize = 20_000;
+const CANDIDATES: usize = 8_000;
 
 struct Record {
     pass: Pass,
@@ -27,7 +27,7 @@ struct Record {
 }
 
 pub fn contents() -> Vec<u8> {
-    let passes = [document(), random()].concat();
+    let passes = [document(), borders(), limits(), random()].concat();
     let records = passes.into_iter().map(Record::by_the_rust);
     records.chain(refused()).flat_map(|record| record.bytes()).collect()
 }
@@ -50,6 +50,43 @@ fn document() -> Vec<Pass> {
         over(&step[..12], [CASE_S, 0x1196_0000]),
         over(&[101, 101, 101, 101, 101, 100, 101, 100], [CASE_S; 2]),
     ]
+}
+
+/// Chroma planes of frames that end inside a superblock, in all subsamplings, with even and odd sizes:
+/// the rules of the last column and the last row.
+fn borders() -> Vec<Pass> {
+    let mut random = Random(35);
+    let mut passes = Vec::new();
+    for k in 0..32 {
+        let [sub_x, sub_y, pass, odd, wide] = array::from_fn(|bit| (k >> bit & 1) as u8);
+        let mi = 2 + usize::from(odd);
+        let frame = Frame { sharpness: 0, depth: 8, sub_x, sub_y, mi_cols: mi, mi_rows: mi };
+        // Level 63: 8 by 8 in every plane with transforms 2, which no size makes; or 16 by 16 with 0.
+        let word = if wide == 1 { 0x00a7_f000 } else { 0x5507_f000 };
+        // A flat plane for the wide filters, any small steps for the narrow one.
+        let most = if wide == 1 { 1 } else { 9 };
+        let (width, height) = (8 * mi >> sub_x, 8 * mi >> sub_y);
+        passes.push(Pass {
+            frame,
+            at: Superblock { row: 0, col: 0, plane: 1, pass },
+            cells: vec![word; mi * mi],
+            window: Window { width, height, stride: width, y_origin: 0 },
+            samples: (0..width * height).map(|_| 100 + random.between(0, most) as u16).collect(),
+        });
+    }
+    passes
+}
+
+/// The largest stride and the last rows that a window may have.
+fn limits() -> Vec<Pass> {
+    let Window { stride, y_origin, .. } = small().window;
+    [(1, 131_072, y_origin), (12, stride, 65_524), (1, stride, 65_535)]
+        .map(|(height, stride, y_origin)| {
+            let mut pass = small();
+            pass.window = Window { height, stride, y_origin, ..pass.window };
+            pass
+        })
+        .to_vec()
 }
 
 /// Random passes that fit into a record, those that reach what was not yet reached often.
@@ -97,7 +134,7 @@ fn fitting(random: &mut Random) -> Pass {
 /// What is wrong with a record, and the number and place of its refusal.
 type Fault = (u8, u32, fn(&mut Pass));
 
-const FAULTS: [Fault; 68] = [
+const FAULTS: [Fault; 69] = [
     (1, 0, |p| p.frame.sharpness = 8),
     (1, 0, |p| p.frame.sharpness = 255),
     (2, 0, |p| p.frame.depth = 7),
@@ -125,6 +162,7 @@ const FAULTS: [Fault; 68] = [
     (10, 0, |p| p.at.col = 4),
     (10, 0, |p| p.at.col = 9),
     (10, 0, |p| p.at.col = 16),
+    (10, 0, |p| p.frame.mi_cols = 8),
     (10, 0, |p| p.at.col = 65528),
     (11, 0, |p| p.cells[0] |= 1),
     (11, 7, |p| p.cells[7] |= 0x800),
