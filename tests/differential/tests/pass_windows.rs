@@ -12,6 +12,14 @@ fn lent(window: Window, more: isize) -> Pass {
     Pass { window, samples, ..small() }
 }
 
+/// Refused for its shape, with samples in range and out of it.
+fn shape_refused(window: Window, more: isize) {
+    let mut pass = lent(window, more);
+    refused(&pass, 12, 0);
+    pass.samples.fill(65535);
+    refused(&pass, 12, 0);
+}
+
 /// The largest and the smallest, lent as many samples as they need, one more and one fewer.
 #[test]
 fn shapes_accepted() {
@@ -20,14 +28,14 @@ fn shapes_accepted() {
             let window = Window { width, height, stride, y_origin };
             accepted(&lent(window, 0));
             accepted(&lent(window, 1));
-            refused(&lent(window, -1), 12, 0);
+            shape_refused(window, -1);
         }
     }
     for height in [65_535, 65_536] {
         for width in [1, 3] {
             let window = Window { width, height, stride: width, y_origin: 65_536 - height };
             accepted(&lent(window, 0));
-            refused(&lent(window, -1), 12, 0);
+            shape_refused(window, -1);
         }
     }
 }
@@ -50,7 +58,7 @@ fn shapes_refused() {
         (1, 2, 1, 65_535),
         (1, 1, 1, 65_536),
     ] {
-        refused(&lent(Window { width, height, stride, y_origin }, 0), 12, 0);
+        shape_refused(Window { width, height, stride, y_origin }, 0);
     }
     refused(&with(|pass| pass.window.height = 0), 12, 0);
     accepted(&lent(Window { stride: 44, y_origin: 65_524, ..small().window }, 0));
