@@ -65,7 +65,7 @@ fn borders() -> Vec<Pass> {
         let word = if wide == 1 { 0x00a7_f000 } else { 0x5507_f000 };
         // A flat plane for the wide filters, any small steps for the narrow one.
         let most = if wide == 1 { 1 } else { 9 };
-        let (width, height) = (8 * mi >> sub_x, 8 * mi >> sub_y);
+        let (width, height) = ((8 * mi) >> sub_x, (8 * mi) >> sub_y);
         passes.push(Pass {
             frame,
             at: Superblock { row: 0, col: 0, plane: 1, pass },

@@ -86,12 +86,12 @@ fn window(frame: &Frame, plane: u8) -> Window {
     Window { width, height: (64 >> sub_y) + 8, stride: width, y_origin: ((8 * BASE) >> sub_y) - 8 }
 }
 
-/// One row of samples: nearly flat, any, or either by turns of 32.
+/// One row of samples: nearly flat, with noise about the limits, or either by turns of 32.
 fn samples(random: &mut Random, y: usize, width: usize, depth: u8, kind: &str) -> Vec<u16> {
     let sample = |x: usize| {
         let is_smooth = kind == "smooth" || kind == "mixed" && (x / 32 + y / 32).is_multiple_of(2);
-        let eight =
-            if is_smooth { 90 + (x / 16 + y / 16) as i64 % 40 } else { random.between(0, 254) };
+        let noise = if is_smooth { 0 } else { random.between(0, 40) };
+        let eight = 90 + (x / 16 + y / 16) as i64 % 40 + noise;
         (eight << (depth - 8)) as u16 + u16::from(random.flag())
     };
     (0..width).map(sample).collect()
