@@ -17,8 +17,8 @@ module _ {A : Type 0} where
   passed false number place after e = (refl, e)
 
   -- a bound of an operation's place, line by line
-  pub refuse-place : (b : ℕ) (test : Bool) (number place : ℕ) (after : Outcome A) → place ≤ b → (test ≡ false → returned after .place ≤ b) → returned (refuse test number place after) .place ≤ b
-  refuse-place b true number place after p q = p
+  pub refuse-place : (b : ℕ) (test : Bool) (number place : ℕ) (after : Outcome A) → (test ≡ true → place ≤ b) → (test ≡ false → returned after .place ≤ b) → returned (refuse test number place after) .place ≤ b
+  refuse-place b true number place after p q = p refl
   refuse-place b false number place after p q = q refl
 
   pub result-is : {a b : A} → accepted a ≡ accepted b → a ≡ b

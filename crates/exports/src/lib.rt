@@ -3,5 +3,6 @@ pub mod border;
 pub mod edge_entry;
 pub mod level_entry;
 pub mod line_entry;
+pub mod pass_entry;
 pub mod row_entry;
 pub mod strength_entry;

@@ -6,33 +6,24 @@ ghost use Rattle.cells.specs.Cell.{cellOf};
 ghost use Rattle.row.specs.Row.{modeInfo, row, returnedOf};
 ghost use Rattle.exports.specs.Border.{numbersOf};
 use crate::border::Refusal;
+use crate::border::numbers;
 use cells::LfCell;
 use row::RowAnswer;
 
-fn refusal(number: u32, place: usize) -> Refusal
-    requires { ⌜ place ≤ 65536 ⌝ }
-    ensures { λ r. ⌜ numbersOf r ≡ record { number = number; place = place } ⌝ }
-{
-    Refusal {
-        number,
-        place: place as u32,
-    }
-}
-
 fn refusal_of(answer: RowAnswer) -> Refusal
-    requires { ⌜ returnedOf answer .place ≤ 65536 ⌝ }
+    requires { ⌜ returnedOf answer .place ≤ 4294967295 ⌝ }
     ensures { λ r. ⌜ numbersOf r ≡ returnedOf answer ⌝ }
 {
     match answer {
-        RowAnswer::Done => refusal(0, 0),
-        RowAnswer::Sharpness => refusal(1, 0),
-        RowAnswer::Depth => refusal(2, 0),
-        RowAnswer::Subsampling => refusal(3, 0),
-        RowAnswer::FrameSize => refusal(4, 0),
-        RowAnswer::Base => refusal(5, 0),
-        RowAnswer::Level(k) => refusal(6, k),
-        RowAnswer::Short => refusal(7, 0),
-        RowAnswer::Block(k) => refusal(8, k),
+        RowAnswer::Done => numbers(0, 0),
+        RowAnswer::Sharpness => numbers(1, 0),
+        RowAnswer::Depth => numbers(2, 0),
+        RowAnswer::Subsampling => numbers(3, 0),
+        RowAnswer::FrameSize => numbers(4, 0),
+        RowAnswer::Base => numbers(5, 0),
+        RowAnswer::Level(k) => numbers(6, k),
+        RowAnswer::Short => numbers(7, 0),
+        RowAnswer::Block(k) => numbers(8, k),
     }
 }
 

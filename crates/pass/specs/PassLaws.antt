@@ -4,20 +4,24 @@ use mathlib.Core.Path.{_≡_, refl, sym, _∙_}
 use mathlib.Core.Bool.{Bool, true, false, not, _||_}
 use mathlib.Core.List.{List}
 use Prim.Native.Nat.{ℕ, _*_, _^_, _≤_}
+use native.Mathlib.Omega.{arith}
 use lib.Dec.{ltb}
 use lib.ListN.{length}
 use borrow.Author.Tests.{ltb-false, not-false}
 use Rattle.base.specs.Depth.{supported}
-use Rattle.base.specs.First.{found}
+use Rattle.base.specs.First.{found, first-is}
 use Rattle.base.specs.Outcome.{Outcome, accepted, refused, held, returned, Answers}
-use Rattle.base.specs.OutcomeLaws.{passed, result-is}
+use Rattle.base.specs.OutcomeLaws.{passed, result-is, refuse-place}
 use Rattle.edges.specs.Decision.{levelless}
 use Rattle.edges.specs.Edge.{passOf}
 use Rattle.edges.specs.EdgeLaws.{placed}
+use Rattle.edges.specs.GridLaws.{edge-count-small}
 use Rattle.edges.specs.SuperblockFilter.{Placed, edgeCount}
 use Rattle.geometry.specs.Frame.{badSubsampling, badFrameSize, badStart, cellsFrom}
+use Rattle.geometry.specs.FrameLaws.{sized, cells-small}
 use Rattle.geometry.specs.declared.Pass.{Pass}
 use Rattle.geometry.specs.declared.Superblock.{Superblock}
+use Rattle.window.specs.SampleLaws.{samples-small}
 use Rattle.window.specs.Window.{badWindow, badSample}
 use Rattle.window.specs.WindowLaws.{Lent, lent}
 use Rattle.window.specs.declared.WindowShape.{WindowShape}
@@ -90,6 +94,32 @@ module _ (g : WindowShape) (sharpness depth subX subY miCols miRows row col plan
       let n = numbers-passed sharpness depth subX subY miCols miRows row col plane pass (length cells) _ e in
       let l = lists-passed g given (passOf pass) samples _ (n .1) in
       record { numbers = n .0; lists = l .0; result-is = sym (result-is (l .1)) }
+
+-- a place fits 32 bits: it is a cell of the row, a sample of the window, a position of the grid, or 0
+pub pass-place : (g : WindowShape) (sharpness depth subX subY miCols miRows row col plane pass : ℕ) (cells samples : List ℕ)
+    → returned (superblockLoopFilterCells g sharpness depth subX subY miCols miRows row col plane pass cells samples) .place ≤ 4294967295
+unfolding superblockLoopFilterCells
+pass-place g sharpness depth subX subY miCols miRows row col plane pass cells samples =
+    let s = settingOf sharpness depth subX subY miCols miRows row col plane cells .superblock in
+    let cell = badCell cells in
+    let sample = badSample g (2 ^ depth) samples in
+    let level = levelless s (passOf pass) (ltb 0 plane) cells in
+    refuse-place 4294967295 (ltb 7 sharpness) 1 0 _ (λ e. omega arith) (λ t1.
+    refuse-place 4294967295 (not (supported depth)) 2 0 _ (λ e. omega arith) (λ t2.
+    refuse-place 4294967295 (badSubsampling subX subY) 3 0 _ (λ e. omega arith) (λ t3.
+    refuse-place 4294967295 (badFrameSize miCols miRows) 4 0 _ (λ e. omega arith) (λ t4.
+    refuse-place 4294967295 (badStart row miRows) 5 0 _ (λ e. omega arith) (λ t5.
+    refuse-place 4294967295 (ltb (length cells) (cellsFrom row miCols miRows)) 7 0 _ (λ e. omega arith) (λ t7.
+    refuse-place 4294967295 (ltb 2 plane || ltb 1 pass) 9 0 _ (λ e. omega arith) (λ t9.
+    refuse-place 4294967295 (badStart col miCols) 10 0 _ (λ e. omega arith) (λ t10.
+    refuse-place 4294967295 (found cell (cellsFrom row miCols miRows)) 11 _ _
+    (λ e. omega (arith, first-is cell _ e .to, cells-small row miCols miRows (sized miCols miRows t4 .cols))) (λ t11.
+    refuse-place 4294967295 (badWindow g (length samples)) 12 0 _ (λ e. omega arith) (λ t12.
+    refuse-place 4294967295 (found sample (g .height * g .width)) 13 _ _
+    (λ e. omega (arith, first-is sample _ e .to, samples-small g (length samples) (lent g (length samples) t12))) (λ t13.
+    refuse-place 4294967295 (found level (64 * edgeCount s (passOf pass))) 14 _ _
+    (λ e. omega (arith, first-is level _ e .to, edge-count-small s (passOf pass)))
+    (λ t14. omega arith))))))))))))
 
 -- ---- the tests as the code makes them
 

@@ -131,13 +131,13 @@ module _ (m : ModeInfo) (levels : List ℕ) (sharpness depth subX subY miCols mi
   pub row-place : returned answer .place ≤ 65536
   unfolding row
   row-place =
-      refuse-place 65536 (ltb 7 sharpness) 1 0 _ (omega arith) (λ t1.
-      refuse-place 65536 (not (supported depth)) 2 0 _ (omega arith) (λ t2.
-      refuse-place 65536 (badSubsampling subX subY) 3 0 _ (omega arith) (λ t3.
-      refuse-place 65536 (badFrameSize miCols miRows) 4 0 _ (omega arith) (λ t4.
-      refuse-place 65536 (badStart base miRows) 5 0 _ (omega arith) (λ t5.
-      refuse-place 65536 (found (badLevel levels) 64) 6 (first (badLevel levels) 64) _ (omega (arith, first-small (badLevel levels) 0 64)) (λ t6.
-      refuse-place 65536 (tooShort m cells n) 7 0 _ (omega arith) (λ t7.
+      refuse-place 65536 (ltb 7 sharpness) 1 0 _ (λ e. omega arith) (λ t1.
+      refuse-place 65536 (not (supported depth)) 2 0 _ (λ e. omega arith) (λ t2.
+      refuse-place 65536 (badSubsampling subX subY) 3 0 _ (λ e. omega arith) (λ t3.
+      refuse-place 65536 (badFrameSize miCols miRows) 4 0 _ (λ e. omega arith) (λ t4.
+      refuse-place 65536 (badStart base miRows) 5 0 _ (λ e. omega arith) (λ t5.
+      refuse-place 65536 (found (badLevel levels) 64) 6 (first (badLevel levels) 64) _ (λ e. omega (arith, first-small (badLevel levels) 0 64)) (λ t6.
+      refuse-place 65536 (tooShort m cells n) 7 0 _ (λ e. omega arith) (λ t7.
       refuse-place 65536 (found (badAt m) n) 8 (first (badAt m) n) _
-      (omega (arith, first-small (badAt m) 0 n, cells-small base miCols miRows (sized miCols miRows t4 .cols)))
+      (λ e. omega (arith, first-small (badAt m) 0 n, cells-small base miCols miRows (sized miCols miRows t4 .cols)))
       (λ t8. omega arith))))))))

@@ -1,5 +1,6 @@
 use borrow.Author.Needs.{needs}
 use mathlib.Core.Path.{_∙_}
+use native.Mathlib.Omega.{arith}
 use denote.Ref.{now}
 use Rattle.row.specs.Row.{modeInfo}
 use Rattle.row.specs.RowLaws.{row-place}
@@ -9,8 +10,8 @@ use Rattle.exports.proofs.row_entry.springspade_row.Tie as tie
 refusal-of-requires : tie.Need-refusal-of-requires
 refusal-of-requires c κs =
     let a = c .before .before .before .before .before .before .before .before .before .before .args in
-    rw (c .before .before .row-cells .ensures .0)
-    (row-place (modeInfo (now (a .mi-sizes)) (now (a .tx-sizes)) (now (a .skips)) (now (a .ref-frames)) (now (a .y-modes)) (now (a .segment-ids))) (now (a .levels)) (a .sharpness) (a .depth) (a .sub-x) (a .sub-y) (a .mi-cols) (a .mi-rows) (a .base) (now (a .cells)))
+    let small = row-place (modeInfo (now (a .mi-sizes)) (now (a .tx-sizes)) (now (a .skips)) (now (a .ref-frames)) (now (a .y-modes)) (now (a .segment-ids))) (now (a .levels)) (a .sharpness) (a .depth) (a .sub-x) (a .sub-y) (a .mi-cols) (a .mi-rows) (a .base) (now (a .cells)) in
+    rw (c .before .before .row-cells .ensures .0) (omega arith)
 
 returns : tie.Need-returns
 returns c =

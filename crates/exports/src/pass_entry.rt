@@ -1,0 +1,78 @@
+// One pass over one superblock of a plane.
+ghost use mathlib.Core.Path.{_≡_};
+ghost use Prim.Native.Nat.{_≤_};
+ghost use Rattle.base.specs.Outcome.{Answers};
+ghost use Rattle.pass.specs.Pass.{superblockLoopFilterCells, returnedOf};
+ghost use Rattle.exports.specs.Border.{numbersOf};
+use crate::border::Refusal;
+use crate::border::numbers;
+use pass::PassAnswer;
+use window::WindowShape;
+
+fn refusal_of(answer: PassAnswer) -> Refusal
+    requires { ⌜ returnedOf answer .place ≤ 4294967295 ⌝ }
+    ensures { λ r. ⌜ numbersOf r ≡ returnedOf answer ⌝ }
+{
+    match answer {
+        PassAnswer::Done => numbers(0, 0),
+        PassAnswer::Sharpness => numbers(1, 0),
+        PassAnswer::Depth => numbers(2, 0),
+        PassAnswer::Subsampling => numbers(3, 0),
+        PassAnswer::FrameSize => numbers(4, 0),
+        PassAnswer::Row => numbers(5, 0),
+        PassAnswer::Short => numbers(7, 0),
+        PassAnswer::Plane => numbers(9, 0),
+        PassAnswer::Column => numbers(10, 0),
+        PassAnswer::Cell(k) => numbers(11, k),
+        PassAnswer::Window => numbers(12, 0),
+        PassAnswer::Sample(k) => numbers(13, k),
+        PassAnswer::Level(k) => numbers(14, k),
+    }
+}
+
+// The cells are those of the superblock row that starts at row. The window is height rows of width samples, stride apart, the
+// first at the plane's row y_origin.
+#[no_mangle]
+pub extern "C" fn springspade_pass(
+    samples: &mut [u16],
+    cells: &[u32],
+    sharpness: u8,
+    depth: u8,
+    sub_x: u8,
+    sub_y: u8,
+    mi_cols: usize,
+    mi_rows: usize,
+    row: usize,
+    col: usize,
+    plane: u8,
+    pass: u8,
+    width: usize,
+    height: usize,
+    stride: usize,
+    y_origin: usize,
+) -> Refusal
+    ensures { λ r. ⌜ Answers (superblockLoopFilterCells (record { width = width; height = height; stride = stride; top = «y_origin» }) sharpness depth «sub_x» «sub_y» «mi_cols» «mi_rows» row col plane pass (now (cells .entry)) (now (samples .entry))) (numbersOf r) (now (samples .entry)) (now (samples .exit)) ⌝ }
+{
+    let g = WindowShape {
+        width,
+        height,
+        stride,
+        top: y_origin,
+    };
+    let answer = pass::superblock_loop_filter_cells(
+        samples,
+        g,
+        cells,
+        sharpness,
+        depth,
+        sub_x,
+        sub_y,
+        mi_cols,
+        mi_rows,
+        row,
+        col,
+        plane,
+        pass,
+    );
+    refusal_of(answer)
+}
