@@ -64,6 +64,11 @@ module _ {A : Type 0} where
       go true e (List·Memᴰ·tail k) ih = ih k
       go false e k ih = ih k
 
+  -- only the tests of the list's members count
+  pub select-same : (t t′ : A → Bool) (l : List A) → ((a : A) → List·Memᴰ a l → t a ≡ t′ a) → select t l ≡ select t′ l
+  select-same t t′ [] h = refl
+  select-same t t′ (a ∷ l) h = λ i. keep-if (h a (List·Memᴰ·head refl) i) a (select-same t t′ l (λ b m. h b (List·Memᴰ·tail m)) i)
+
   -- where two members of a list in two parts can stand
   pub data Halves (x y : A) (l m : List A) : Type 0 where
     Halves·left : Before x y l → Halves x y l m

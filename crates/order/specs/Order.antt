@@ -89,6 +89,12 @@ abbrev pub run : {A S : Type 0} → (A → S → S) → List A → S → S
 run step [] s = s
 run step (a ∷ l) s = run step l (step a s)
 
+-- only the steps of the list's members count
+pub run-same : {A S : Type 0} (step step′ : A → S → S) (l : List A) → ((a : A) → List·Memᴰ a l → (s : S) → step a s ≡ step′ a s) → (s : S) → run step l s ≡ run step′ l s
+run-same step step′ [] h s = refl
+run-same step step′ (a ∷ l) h s =
+    ap (run step l) (h a (List·Memᴰ·head refl) s) ∙ run-same step step′ l (λ b m. h b (List·Memᴰ·tail m)) (step′ a s)
+
 module _ {A S : Type 0} (step : A → S → S) where
   -- the steps of a and b can be exchanged
   abbrev pub Exchange : A → A → Type 0

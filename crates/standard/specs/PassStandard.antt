@@ -9,7 +9,7 @@ use native.Mathlib.Omega.{arith}
 use lib.Dec.{T, eqb, ltb}
 use lib.IntN.{ℤ, pos, negsuc, natAbs}
 use lib.ListN.{getD}
-use borrow.Author.Tests.{lt-ltb}
+use borrow.Author.Tests.{not-false}
 use Rattle.base.specs.First.{found, found-false}
 use Rattle.base.specs.Outcome.{accepted}
 use Rattle.blocks.specs.BlockSizes.{uvTxSize}
@@ -18,17 +18,20 @@ use Rattle.cells.specs.Cell.{cellOf, widthLog2, heightLog2, txOf}
 use Rattle.cells.specs.declared.LfCell.{LfCell}
 use Rattle.edges.specs.Decision.{cellIndex, decisionBy, decision, withoutLevel, levelless}
 use Rattle.edges.specs.Edge.{passOf, edgeFacts}
+use Rattle.edges.specs.GridLaws.{edge-len-small}
+use Rattle.edges.specs.LevellessLaws.{levelless-at}
+use Rattle.edges.specs.ScreenLaws.{seen, cell-below}
 use Rattle.edges.specs.SuperblockFilter.{Placed, sub, edgeCount, edgeLen, lumaX, lumaY, planeX, planeY, onScreen, applyFilter}
 use Rattle.edges.specs.declared.decision.Decision.{Decision}
 use Rattle.geometry.specs.Frame.{cellsFrom}
 use Rattle.geometry.specs.declared.Pass.{Pass}
 use Rattle.geometry.specs.declared.Superblock.{Superblock}
 use Rattle.levels.specs.Levels.{levelAt}
-use Rattle.order.specs.Grid.{select, keep-if, grid, grid-mem, select-mem, select-passes}
-use Rattle.order.specs.Order.{run}
+use Rattle.order.specs.Grid.{select, grid, grid-mem, select-mem, select-passes, select-same}
+use Rattle.order.specs.Order.{run, run-same}
 use Rattle.pass.specs.Pass.{Position, position, Setting, setting, decisionAt, isDecided, decided, lineOf, filters, step, superblockLoopFilter, settingOf, superblockLoopFilterCells}
 use Rattle.pass.specs.PassLaws.{ran}
-use Rattle.row.specs.Row.{ModeInfo, row}
+use Rattle.row.specs.Row.{ModeInfo, row as rowOf}
 use Rattle.row.specs.RowStandard.{Made, Standard, row-made, row-standard}
 use Rattle.strength.specs.Strength.{modeType}
 use Rattle.window.specs.declared.WindowShape.{WindowShape}
@@ -111,3 +114,104 @@ module _ (f : Frame) (pass : Pass) (words : List ℕ) (cells : List ℕ) (n : �
         → step g over pass p samples ≡ standardStep g f pass p samples
     unfolding step lineOf standardStep planeX planeY factsAt edgeFacts
     step-same g h e present samples = rw (size-same h e, lvl-same h e present)
+
+-- ---- all positions
+
+module _ (f : Frame) (pass : Pass) (words cells : List ℕ) (made : Made (f .info) (f .levels) (f .subX) (f .subY) (cellsFrom (f .superblock .row) (f .superblock .cols) (f .superblock .rows)) cells words) (at : Placed (f .superblock)) where
+  abbrev n : ℕ
+  n = cellsFrom (f .superblock .row) (f .superblock .cols) (f .superblock .rows)
+
+  abbrev positions : List Position
+  positions = grid position (edgeCount (f .superblock) pass) (edgeLen (f .superblock) pass)
+
+  abbrev setting-of : Setting
+  setting-of = setting (f .superblock) (f .chroma) (f .sharpness) (f .depth) words
+
+  -- a position on screen reads a cell of the row
+  index-small : (edge i : ℕ) → edge < edgeCount (f .superblock) pass → i < edgeLen (f .superblock) pass
+      → onScreen (f .superblock) pass (lumaX (f .superblock) pass edge i) (lumaY (f .superblock) pass edge i) ≡ true → cellIndex (f .superblock) pass edge i < n
+  unfolding cellIndex
+  index-small edge i h k e = cell-below (f .superblock) _ _ at (seen (f .superblock) pass edge i h k e)
+
+  on-grid : (p : Position) → List·Memᴰ p positions → (p .edge < edgeCount (f .superblock) pass) × (p .i < edgeLen (f .superblock) pass)
+  on-grid p m =
+      let c = grid-mem position (edgeCount (f .superblock) pass) (edgeLen (f .superblock) pass) m in
+      let high = c .high in
+      let to = c .to in
+      rw (c .is) (omega arith, omega arith)
+
+  -- step 14 decides what the words decide
+  same-decided : (p : Position) → List·Memᴰ p positions → isDecided setting-of pass p ≡ factsAt f pass p .«apply_filter»
+  unfolding isDecided
+  same-decided p m = cases (onScreen (f .superblock) pass (lumaX (f .superblock) pass (p .edge) (p .i)) (lumaY (f .superblock) pass (p .edge) (p .i))) refl
+    where
+      cases : (b : Bool) → onScreen (f .superblock) pass (lumaX (f .superblock) pass (p .edge) (p .i)) (lumaY (f .superblock) pass (p .edge) (p .i)) ≡ b → decisionAt setting-of pass p .decided ≡ factsAt f pass p .«apply_filter»
+      cases true e = let c = on-grid p m in decided-screen f pass words cells n made p (index-small (p .edge) (p .i) (c .0) (c .1) e) e
+      cases false e = decided-off f pass words cells n made p e
+
+  -- what is decided is on screen
+  decided-seen : (p : Position) → isDecided setting-of pass p ≡ true → onScreen (f .superblock) pass (lumaX (f .superblock) pass (p .edge) (p .i)) (lumaY (f .superblock) pass (p .edge) (p .i)) ≡ true
+  unfolding isDecided decision
+  decided-seen p e = cases (onScreen (f .superblock) pass (lumaX (f .superblock) pass (p .edge) (p .i)) (lumaY (f .superblock) pass (p .edge) (p .i))) refl
+    where
+      cases : (b : Bool) → onScreen (f .superblock) pass (lumaX (f .superblock) pass (p .edge) (p .i)) (lumaY (f .superblock) pass (p .edge) (p .i)) ≡ b → onScreen (f .superblock) pass (lumaX (f .superblock) pass (p .edge) (p .i)) (lumaY (f .superblock) pass (p .edge) (p .i)) ≡ true
+      cases true d = d
+      cases false d = absurd (subst T (sym (sym off ∙ e)) tt)
+        where
+          off : decisionAt setting-of pass p .decided ≡ false
+          off = rw d
+
+  module _ (present : found (levelless (f .superblock) pass (f .chroma) words) (64 * edgeCount (f .superblock) pass) ≡ false) where
+    -- what is decided has a level
+    has-level : (p : Position) → List·Memᴰ p positions → isDecided setting-of pass p ≡ true → decisionAt setting-of pass p .present ≡ true
+    unfolding isDecided
+    has-level p m e =
+        let c = on-grid p m in
+        let edge = c .0 in
+        let i = c .1 in
+        let len = edge-len-small (f .superblock) pass in
+        let none = found-false _ _ present (64 * p .edge + p .i) (omega arith) in
+        without (decisionAt setting-of pass p) e (sym (levelless-at (f .superblock) pass (f .chroma) words (p .edge) (p .i) i) ∙ none)
+      where
+        without : (d : Decision) → d .decided ≡ true → withoutLevel d ≡ false → d .present ≡ true
+        without d on no-hit = not-false (d .present) (rw on at no-hit)
+
+    -- step 17 does what the pass's step does
+    same-step : (g : WindowShape) (p : Position) → List·Memᴰ p (decided setting-of pass) → (samples : List ℕ) → step g setting-of pass p samples ≡ standardStep g f pass p samples
+    unfolding decided
+    same-step g p m samples =
+        let on = T-true (isDecided setting-of pass p) (select-passes (isDecided setting-of pass) positions m) in
+        let grid = select-mem (isDecided setting-of pass) positions m in
+        let c = on-grid p grid in
+        let seen = decided-seen p on in
+        step-same f pass words cells n made p g (index-small (p .edge) (p .i) (c .0) (c .1) seen) seen (has-level p grid on) samples
+      where
+        T-true : (b : Bool) → T b → b ≡ true
+        T-true true t = refl
+        T-true false t = absurd t
+
+    -- the pass over the words is the standard's pass over the lists
+    same-pass : (g : WindowShape) (samples : List ℕ) → superblockLoopFilter g setting-of pass samples ≡ standardPass g f pass samples
+    unfolding superblockLoopFilter standardPass decided
+    same-pass g samples =
+        run-same (step g setting-of pass) (standardStep g f pass) (decided setting-of pass) (same-step g) samples
+        ∙ ap (λ (l : List Position). run (standardStep g f pass) l samples) (select-same (isDecided setting-of pass) _ positions same-decided)
+
+-- ---- THE TIE
+
+-- What a frame's lists make of a superblock: plane 0 counts as not subsampled.
+abbrev pub frameOf : ModeInfo → (levels : List ℕ) (sharpness depth subX subY miCols miRows row col plane : ℕ) → Frame
+frameOf info levels sharpness depth subX subY miCols miRows row col plane =
+    let t = settingOf sharpness depth subX subY miCols miRows row col plane [] in
+    record { superblock = t .superblock; chroma = t .chroma; subX = eqb subX 1; subY = eqb subY 1; sharpness = sharpness; depth = depth; info = info; levels = levels }
+
+-- Where the row makes words of the lists, and the pass over those words is accepted, its result is the standard's pass over the lists.
+pub pass-standard : (info : ModeInfo) (levels : List ℕ) (g : WindowShape) (sharpness depth subX subY miCols miRows row col plane pass : ℕ) (cells words samples result : List ℕ)
+    → rowOf info levels sharpness depth subX subY miCols miRows row cells ≡ accepted words
+    → superblockLoopFilterCells g sharpness depth subX subY miCols miRows row col plane pass words samples ≡ accepted result
+    → result ≡ standardPass g (frameOf info levels sharpness depth subX subY miCols miRows row col plane) (passOf pass) samples
+pass-standard info levels g sharpness depth subX subY miCols miRows row col plane pass cells words samples result made e =
+    let r = ran g sharpness depth subX subY miCols miRows row col plane pass words samples result e in
+    r .result-is
+    ∙ same-pass (frameOf info levels sharpness depth subX subY miCols miRows row col plane) (passOf pass) words cells
+    (row-made info levels sharpness depth subX subY miCols miRows row cells words made) (r .numbers .placed-at _ _) (r .lists .levels-present) g samples
