@@ -2,3 +2,4 @@ pub mod Pass
 pub mod WorkLaws
 pub mod PassLaws
 pub mod OrderOfWork
+pub mod Cases
