@@ -3,6 +3,7 @@ mod edge_record;
 mod levels_record;
 mod line_record;
 mod numbers;
+mod pass_record;
 mod replay;
 mod row_record;
 mod strength_record;
@@ -17,4 +18,5 @@ fn main() {
     replay_file(b"lines.bin", Kind::Line);
     replay_file(b"rows.bin", Kind::Row);
     replay_file(b"edges.bin", Kind::Edge);
+    replay_file(b"passes.bin", Kind::Pass);
 }

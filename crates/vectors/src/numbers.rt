@@ -23,7 +23,7 @@ fn signed32(bits: u32) -> i32 {
     }
 }
 
-fn unsigned16_at(record: &Record, at: usize) -> u16
+pub(crate) fn unsigned16_at(record: &Record, at: usize) -> u16
     requires { ⌜ at < 4095 ⌝ }
 {
     unsigned16(record[at], record[at + 1])

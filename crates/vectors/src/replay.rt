@@ -3,6 +3,7 @@ ghost use Prim.Native.Nat.{_≤_};
 use crate::edge_record;
 use crate::levels_record;
 use crate::line_record;
+use crate::pass_record;
 use crate::row_record;
 use crate::strength_record;
 use libc::STDOUT_FILENO;
@@ -17,6 +18,7 @@ pub(crate) enum Kind {
     Line,
     Row,
     Edge,
+    Pass,
 }
 
 // A record stands at the start: with one length for all kinds, one loop reads them all.
@@ -44,6 +46,7 @@ fn record_length(kind: Kind) -> usize
         Kind::Line => line_record::LENGTH,
         Kind::Row => row_record::LENGTH,
         Kind::Edge => edge_record::LENGTH,
+        Kind::Pass => pass_record::LENGTH,
     }
 }
 
@@ -54,6 +57,7 @@ fn is_equal(kind: Kind, record: &Record) -> bool {
         Kind::Line => line_record::is_equal(record),
         Kind::Row => row_record::is_equal(record),
         Kind::Edge => edge_record::is_equal(record),
+        Kind::Pass => pass_record::is_equal(record),
     }
 }
 

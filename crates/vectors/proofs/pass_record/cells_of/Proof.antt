@@ -1,0 +1,27 @@
+use borrow.Author.Needs.{needs}
+use Prim.Native.Nat.{_-_}
+use Rattle.vectors.proofs.pass_record.cells_of.Statement.{statement}
+use Rattle.vectors.proofs.pass_record.cells_of.Tie as tie
+
+abbrev Inv-loop : tie.InvT-loop
+Inv-loop «record» out₀ k₀ out k = Unit {0}
+
+abbrev μ-loop : tie.MeasureT-loop
+μ-loop «record» out₀ k₀ out k = 32 - k
+
+pub cells-of-spec : {M : Type 1} → statement M
+cells-of-spec =
+    tie.close
+    (tie.spec
+    Inv-loop
+    μ-loop
+    (search needs)
+    (search needs)
+    (search needs)
+    (search needs)
+    (search needs)
+    (search needs)
+    (search needs)
+    (search needs)
+    (search needs)
+    (search needs))
