@@ -20,7 +20,7 @@ pub(crate) const MI_COLS: usize = 2;
 pub(crate) const MI_ROWS: usize = 1;
 
 // Every entry of the level table is 32, so mode 0 and segment 0 stand for any.
-fn made_row(cells: &mut [u32]) -> RowAnswer {
+pub(crate) fn made_row(cells: &mut [u32]) -> RowAnswer {
     row_cells(
         &[MI_SIZE; 2],
         &[TX_SIZE; 2],

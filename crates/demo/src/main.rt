@@ -1,9 +1,10 @@
 // Prints the level table of a built-in frame header, the strengths of some of its levels, a line before
-// and after the filter, the cells of a row and the facts of some of its edges.
+// and after the filter, the cells of a row, the facts of some of its edges and a pass over it.
 ghost use Prim.Native.Nat.{_<_};
 
 mod case_s;
 mod output;
+mod pass_step;
 mod position;
 mod step;
 
@@ -14,6 +15,7 @@ use levels::header::SegmentationParams;
 use levels::loop_filter::level_table;
 use libc::STDOUT_FILENO;
 use output::print_number;
+use pass_step::print_pass;
 use position::print_edges;
 use step::print_line;
 use strength::StrengthAnswer;
@@ -97,4 +99,5 @@ fn main() {
     print_line();
     print_row();
     print_edges();
+    print_pass();
 }
