@@ -14,7 +14,7 @@ use window::WindowShape;
 // A cell of the row without its level.
 const WITHOUT_LEVEL: u32 = 0x1150_0000;
 
-// The vertical edges of plane 0. The window has only the plane's first row.
+// Sharpness 0, depth 8, the vertical edges of plane 0. The window has only the plane's first row.
 fn filtered(samples: &mut [u16], cells: &[u32]) -> PassAnswer {
     let first_row = WindowShape {
         width: 16,
@@ -50,7 +50,7 @@ fn print_filtered(cells: &[u32]) {
     print_samples(&samples);
 }
 
-// Refusal 14 names the first position whose cell has no level: 64 for each edge, and edge 2 is the blocks' border.
+// The place is 64 times the edge and the position along it: edge 2 lies between the blocks.
 fn print_refused(cells: &[u32]) {
     let mut samples = step();
     let PassAnswer::Level(place) = filtered(&mut samples, cells) else {
