@@ -39,7 +39,7 @@ Later p q = (p .edge < q .edge) ⊎ ((p .edge ≡ q .edge) × (p .i < q .i))
 
 pub own-order : (t : Setting) (pass : Pass) → WorkOrder (decided t pass) (decided t pass)
 unfolding decided Later
-own-order t pass = record { each = λ p m. m; only = λ p m. m; once = λ p b. twice p (later p p b); rising = λ p q b e. line p q e (later p q b) }
+own-order t pass = record { each = λ p m. m; only = λ p m. m; once = λ p b. twice p (later p p b); rising = λ p q b e. omega (arith, line p q e (later p q b)) }
   where
     later : (p q : Position) → Before p q (decided t pass) → Later p q
     later p q b =
@@ -61,7 +61,7 @@ byLine i edge = position edge i
 
 pub line-order : (t : Setting) (pass : Pass) → WorkOrder (decided t pass) (select (isDecided t pass) (grid byLine (edgeLen (t .superblock) pass) (edgeCount (t .superblock) pass)))
 unfolding decided
-line-order t pass = record { each = each; only = only; once = λ p b. twice p (later p p b); rising = λ p q b e. line p q e (later p q b) }
+line-order t pass = record { each = each; only = only; once = λ p b. twice p (later p p b); rising = λ p q b e. omega (arith, line p q e (later p q b)) }
   where
     n : ℕ
     n = edgeCount (t .superblock) pass
