@@ -1,11 +1,11 @@
 -- THE ORDER OF WORK, document 01's condition 3: every order of work on the decided positions of a pass ends with the samples that the
 -- pass leaves, and changes none outside the window (`order-of-work`).
 -- Assumes nothing.
-use mathlib.Core.Path.{_≡_, refl, sym, ap, _∙_}
+use mathlib.Core.Path.{_≡_, refl, sym, _∙_}
 use mathlib.Core.Logic.{_≢_, _⊎_, inl, inr}
 use mathlib.Core.Bool.{Bool, true, false}
 use mathlib.Core.List.{List, [], _∷_, List·Memᴰ}
-use Prim.Native.Nat.{ℕ, zero, suc, _+_, _*_, _/_, _<_}
+use Prim.Native.Nat.{ℕ, _+_, _*_, _<_}
 use native.Mathlib.Omega.{arith}
 use lib.ListN.{length, getD}
 use Rattle.base.specs.Outcome.{accepted}
@@ -16,14 +16,15 @@ use Rattle.geometry.specs.declared.Pass.{Pass}
 use Rattle.geometry.specs.declared.Pass.the-variants.{Vertical, Horizontal}
 use Rattle.geometry.specs.declared.Superblock.{Superblock}
 use Rattle.order.specs.Grid.{grid, select, select-before, select-mem, select-passes, mem-select, grid-before, grid-mem, mem-grid}
-use Rattle.order.specs.Order.{Before, Once, SameMembers, run, same-run}
+use Rattle.order.specs.Order.{Before, Once, run, same-run}
 use Rattle.window.specs.Reach.{Reach, reach-apart, stencil-other}
-use Rattle.window.specs.StencilLaws.{applied-exchange, applied-length}
+use Rattle.window.specs.StencilLaws.{applied-exchange}
 use Rattle.window.specs.Window.{place}
 use Rattle.window.specs.WindowLaws.{Lent, Inside}
 use Rattle.window.specs.declared.WindowShape.{WindowShape}
 use Rattle.pass.specs.Pass.{Position, position, Setting, decisionAt, isDecided, decided, lineOf, filters, step, superblockLoopFilter, settingOf, superblockLoopFilterCells}
 use Rattle.pass.specs.PassLaws.{ran}
+use Rattle.pass.specs.WorkLaws.{pass-length}
 
 -- a list that holds each decided position once, nothing else, with edge numbers rising along each line across the edges
 pub record WorkOrder (decided order : List Position) : Type 0 where
@@ -133,11 +134,6 @@ module _ (g : WindowShape) (n : ℕ) (w : Lent g n) (t : Setting) (pass : Pass) 
       crossed : (p q : Position) → Before p q order → Before q p order′ → p .i ≢ q .i
       crossed p q b c e = omega (arith, u .rising p q b e, v .rising q p c (sym e))
 
-  steps-length : (order : List Position) (samples : List ℕ) → length (run (step g t pass) order samples) ≡ length samples
-  unfolding step
-  steps-length [] samples = refl
-  steps-length (p ∷ order) samples = steps-length order (step g t pass p samples) ∙ applied-length _ samples
-
   -- a lent sample that is not of the window is left
   steps-other : (order : List Position) (samples : List ℕ) (j d : ℕ) → ((x y : ℕ) → Inside g x y → j ≢ place g x y) → getD (run (step g t pass) order samples) j d ≡ getD samples j d
   unfolding step
@@ -160,7 +156,7 @@ pub order-of-steps : (g : WindowShape) (t : Setting) (pass : Pass) (samples : Li
 unfolding superblockLoopFilter
 order-of-steps g t pass samples w order o = record {
   same = orders-agree g _ w t pass order (decided t pass) o (own-order t pass) samples;
-  as-long = steps-length g _ w t pass (decided t pass) samples;
+  as-long = pass-length g t pass samples;
   others = steps-other g _ w t pass (decided t pass) samples;
 }
 

@@ -1,6 +1,6 @@
 -- One pass over one superblock of a plane: 8.8.2 with packed cells for mode info, and document 01's rules at the window's border.
 -- Assumes nothing.
-use mathlib.Core.Bool.{Bool, cond, not, _&&_, _||_}
+use mathlib.Core.Bool.{Bool, not, _&&_, _||_}
 use mathlib.Core.List.{List}
 use Prim.Native.Nat.{ℕ, _*_, _^_}
 use lib.Dec.{eqb, ltb}

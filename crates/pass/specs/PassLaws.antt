@@ -1,6 +1,6 @@
 -- Laws of the pass: what its tests leave, and what is known of a pass that was accepted.
 -- Assumes nothing.
-use mathlib.Core.Path.{_≡_, refl, sym, _∙_}
+use mathlib.Core.Path.{_≡_, refl, sym}
 use mathlib.Core.Bool.{Bool, true, false, not, _||_}
 use mathlib.Core.List.{List}
 use Prim.Native.Nat.{ℕ, _*_, _^_, _≤_}
@@ -10,7 +10,7 @@ use lib.ListN.{length}
 use borrow.Author.Tests.{ltb-false, not-false}
 use Rattle.base.specs.Depth.{supported}
 use Rattle.base.specs.First.{found, first-is}
-use Rattle.base.specs.Outcome.{Outcome, accepted, refused, held, returned, Answers}
+use Rattle.base.specs.Outcome.{Outcome, accepted, refused, returned, Answers}
 use Rattle.base.specs.OutcomeLaws.{passed, result-is, refuse-place}
 use Rattle.edges.specs.Decision.{levelless}
 use Rattle.edges.specs.Edge.{passOf}
@@ -20,13 +20,11 @@ use Rattle.edges.specs.SuperblockFilter.{Placed, edgeCount}
 use Rattle.geometry.specs.Frame.{badSubsampling, badFrameSize, badStart, cellsFrom}
 use Rattle.geometry.specs.FrameLaws.{sized, cells-small}
 use Rattle.geometry.specs.declared.Pass.{Pass}
-use Rattle.geometry.specs.declared.Superblock.{Superblock}
 use Rattle.window.specs.SampleLaws.{samples-small}
 use Rattle.window.specs.Window.{badWindow, badSample}
 use Rattle.window.specs.WindowLaws.{Lent, lent}
 use Rattle.window.specs.declared.WindowShape.{WindowShape}
 use Rattle.pass.specs.Pass.{Setting, settingOf, badCell, superblockLoopFilter, numbersRefused, listsRefused, superblockLoopFilterCells, returnedOf}
-use Rattle.pass.specs.WorkLaws.{Ready}
 use Rattle.pass.specs.declared.PassAnswer.{PassAnswer}
 use Rattle.pass.specs.declared.PassAnswer.the-variants.{Done, Sharpness, Depth, Subsampling, FrameSize, Row, Short, Plane, Column, Cell, Window, Sample, Level}
 

@@ -1,22 +1,19 @@
 -- Laws of runs, for the code.
 -- Assumes nothing.
 use mathlib.Core.Path.{_≡_, ap, _∙_}
-use mathlib.Core.Bool.{Bool, true, _&&_}
+use mathlib.Core.Bool.{Bool, true}
 use mathlib.Core.List.{List}
 use Prim.Native.Nat.{ℕ, _+_, _*_, _≤_, _<_}
 use native.Mathlib.Nat.{mul-le-mul-right, zero-add}
 use native.Mathlib.Omega.{arith}
-use lib.Dec.{leb}
 use lib.ListN.{length, getD, set}
-use borrow.Author.Tests.{leb-true}
 use Rattle.base.specs.Filled.{filled, filled-more, filled-at, length-filled}
 use Rattle.geometry.specs.declared.Pass.{Pass}
 use Rattle.geometry.specs.declared.Pass.the-variants.{Vertical, Horizontal}
 use Rattle.window.specs.declared.WindowShape.{WindowShape}
 use Rattle.window.specs.Stencil.{Stencil, gather, put, scatter, applied, inTurn}
 use Rattle.window.specs.StencilLaws.{gather-filled, scatter-more, in-turn-more}
-use Rattle.window.specs.WindowLaws.{both}
-use Rattle.window.specs.InsideRun.{insideRun}
+use Rattle.window.specs.InsideRun.{insideRun, inside-run}
 
 -- p7 of (x, y) is not left of the plane or above the window
 abbrev pub Near : WindowShape → Pass → (x y : ℕ) → Type 0
@@ -24,14 +21,8 @@ Near g Vertical x y = (8 ≤ x) × (g .top ≤ y)
 Near g Horizontal x y = g .top + 8 ≤ y
 
 pub inside-near : (g : WindowShape) (pass : Pass) (x y n : ℕ) → insideRun g pass x y n ≡ true → Near g pass x y
-inside-near g Vertical x y n e =
-    let a = both (leb 8 x && leb (x + 8) (g .width) && leb (g .top) y) (leb (y + n) (g .top + g .height)) e in
-    let b = both (leb 8 x && leb (x + 8) (g .width)) (leb (g .top) y) (a .0) in
-    let c = both (leb 8 x) (leb (x + 8) (g .width)) (b .0) in
-    (leb-true _ _ (c .0), leb-true _ _ (b .1))
-inside-near g Horizontal x y n e =
-    let a = both (leb (x + n) (g .width) && leb (g .top + 8) y) (leb (y + 8) (g .top + g .height)) e in
-    leb-true _ _ (both (leb (x + n) (g .width)) (leb (g .top + 8) y) (a .0) .1)
+inside-near g Vertical x y n e = let h = inside-run g Vertical x y n e in (h .0, h .2)
+inside-near g Horizontal x y n e = inside-run g Horizontal x y n e .1
 
 -- the samples of a plain run are lent: tap j of position k
 pub record PlainLent (at step along n lent : ℕ) : Type 0 where

@@ -1,12 +1,12 @@
 -- The tie: over the words that the row makes from mode info, the pass is the standard's (`pass-standard`).
 -- Assumes nothing.
 use mathlib.Core.Path.{_≡_, refl, sym, ap, _∙_, subst}
-use mathlib.Core.Bool.{Bool, true, false, cond, not, _&&_, _||_}
-use mathlib.Core.List.{List, [], _∷_, List·Memᴰ, List·Memᴰ·head, List·Memᴰ·tail}
-use Prim.Native.Nat.{ℕ, _+_, _*_, _/_, _%_, _^_, _≤_, _<_}
+use mathlib.Core.Bool.{Bool, true, false, cond, not, _||_}
+use mathlib.Core.List.{List, [], List·Memᴰ}
+use Prim.Native.Nat.{ℕ, _+_, _*_, _<_}
 use native.Mathlib.Decide.{decLt}
 use native.Mathlib.Omega.{arith}
-use lib.Dec.{T, eqb, ltb}
+use lib.Dec.{T, eqb}
 use lib.IntN.{ℤ, pos, negsuc, natAbs}
 use lib.ListN.{getD}
 use borrow.Author.Tests.{not-false}
@@ -14,7 +14,7 @@ use Rattle.base.specs.First.{found, found-false}
 use Rattle.base.specs.Outcome.{accepted}
 use Rattle.blocks.specs.BlockSizes.{uvTxSize}
 use Rattle.blocks.specs.ModeInfo.{isIntra}
-use Rattle.cells.specs.Cell.{cellOf, widthLog2, heightLog2, txOf}
+use Rattle.cells.specs.Cell.{cellOf, txOf}
 use Rattle.cells.specs.declared.LfCell.{LfCell}
 use Rattle.edges.specs.Decision.{cellIndex, decisionBy, decision, withoutLevel, levelless}
 use Rattle.edges.specs.Edge.{passOf, edgeFacts}
@@ -25,11 +25,10 @@ use Rattle.edges.specs.SuperblockFilter.{Placed, sub, edgeCount, edgeLen, lumaX
 use Rattle.edges.specs.declared.decision.Decision.{Decision}
 use Rattle.geometry.specs.Frame.{cellsFrom}
 use Rattle.geometry.specs.declared.Pass.{Pass}
-use Rattle.geometry.specs.declared.Superblock.{Superblock}
 use Rattle.levels.specs.Levels.{levelAt}
-use Rattle.order.specs.Grid.{select, grid, grid-mem, select-mem, select-passes, select-same}
+use Rattle.order.specs.Grid.{grid, grid-mem, select-mem, select-passes, select-same}
 use Rattle.order.specs.Order.{run, run-same}
-use Rattle.pass.specs.Pass.{Position, position, Setting, setting, decisionAt, isDecided, decided, lineOf, filters, step, superblockLoopFilter, settingOf, superblockLoopFilterCells}
+use Rattle.pass.specs.Pass.{Position, position, Setting, setting, decisionAt, isDecided, decided, lineOf, step, superblockLoopFilter, settingOf, superblockLoopFilterCells}
 use Rattle.pass.specs.PassLaws.{ran}
 use Rattle.row.specs.Row.{ModeInfo, row as rowOf}
 use Rattle.row.specs.RowStandard.{Made, Standard, row-made, row-standard}

@@ -4,7 +4,7 @@ use mathlib.Core.Path.{_≡_, refl, sym, ap, _∙_}
 use mathlib.Core.Bool.{Bool, true, _&&_}
 use mathlib.Core.List.{List}
 use Prim.Native.Nat.{ℕ, zero, suc, _+_, _-_, _*_, _≤_, _<_}
-use native.Mathlib.Nat.{mul-le-mul-right, add-mul}
+use native.Mathlib.Nat.{add-mul}
 use native.Mathlib.Omega.{arith}
 use lib.Dec.{leb}
 use borrow.Author.Tests.{leb-true}
@@ -12,8 +12,8 @@ use Rattle.geometry.specs.declared.Pass.{Pass}
 use Rattle.geometry.specs.declared.Pass.the-variants.{Vertical, Horizontal}
 use Rattle.window.specs.Stencil.{Stencil, applied, inTurn}
 use Rattle.window.specs.StencilLaws.{applied-same}
-use Rattle.window.specs.Window.{place, clamp, tapX, tapY, tapRead, tapStored, tapWritten, stencil, alongX, alongY, runOf}
-use Rattle.window.specs.WindowLaws.{Lent, Inside, place-lent, both, among-yes}
+use Rattle.window.specs.Window.{place, clamp, tapRead, tapStored, tapWritten, alongX, alongY, runOf}
+use Rattle.window.specs.WindowLaws.{Lent, place-lent, both, among-yes}
 use Rattle.window.specs.declared.WindowShape.{WindowShape}
 
 -- all taps of n positions from (x, y) on are in the window

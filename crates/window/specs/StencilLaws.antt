@@ -6,11 +6,10 @@ use mathlib.Core.Bool.{Bool, true, false}
 use mathlib.Core.List.{List, _∷_}
 use Prim.Native.Nat.{ℕ, zero, suc, _+_, _<_}
 use native.Mathlib.Nat.{add-zero, add-suc, suc-add, zero-add}
-use native.Mathlib.Decide.{ℕ-discrete}
 use native.Mathlib.Numerals.{add-one}
 use native.Mathlib.Omega.{arith}
 use lib.ListN.{length, getD, set, length-set}
-use lib.Seq.{getD-set-other, getD-set-same, set-comm, ext-getD}
+use lib.Seq.{getD-set-other, set-comm, ext-getD}
 use Rattle.base.specs.First.{found, found-false}
 use Rattle.window.specs.Stencil.{Stencil, gather, taps, put, scatter, applied, inTurn}
 

@@ -1,8 +1,7 @@
 // The window of a plane: its shape, and the tests of its shape and of its samples.
 ghost use mathlib.Core.Path.{_≡_};
 ghost use Prim.Native.Nat.{_+_, _*_, _≤_};
-ghost use lib.Dec.{leb};
-ghost use lib.ListN.{length, getD};
+ghost use lib.ListN.{length};
 ghost use Rattle.base.specs.First.{first, found};
 ghost use Rattle.window.specs.Window.{badWindow, reaches, badSample};
 ghost use Rattle.window.specs.WindowLaws.{Lent, uncountable};

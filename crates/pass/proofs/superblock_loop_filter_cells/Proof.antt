@@ -1,12 +1,8 @@
 use borrow.Author.Needs.{needs}
-use denote.Ref.{now}
-use mathlib.Core.List.{List, []}
-use mathlib.Core.Path.{_≡_, refl, sym, ap, _∙_}
-use Prim.Native.Nat.{ℕ}
-use lib.ListN.{length}
-use Rattle.base.specs.Outcome.{Outcome, accepted, returned, held}
-use Rattle.pass.specs.Pass.{Setting, settingOf, superblockLoopFilterCells}
-use Rattle.pass.specs.PassLaws.{Numbers, numbers-passed}
+use mathlib.Core.List.{[]}
+use Rattle.base.specs.Outcome.{accepted}
+use Rattle.pass.specs.Pass.{superblockLoopFilterCells}
+use Rattle.pass.specs.PassLaws.{numbers-passed}
 use Rattle.pass.proofs.Refusals.{refused-answer, passed-on, answers-on}
 use Rattle.pass.proofs.superblock_loop_filter_cells.Statement.{statement}
 use Rattle.pass.proofs.superblock_loop_filter_cells.Tie as tie

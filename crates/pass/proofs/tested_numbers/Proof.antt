@@ -1,12 +1,10 @@
 use borrow.Author.Needs.{needs}
 use denote.Ref.{now}
-use mathlib.Core.List.{List, []}
-use mathlib.Core.Path.{_≡_, refl, sym, ap, _∙_}
-use Prim.Native.Nat.{ℕ}
-use Rattle.base.specs.Outcome.{Outcome, accepted}
+use mathlib.Core.List.{[]}
+use mathlib.Core.Path.{sym, ap, _∙_}
+use Rattle.base.specs.Outcome.{accepted}
 use Rattle.pass.specs.Pass.{Setting, setting, superblockLoopFilter}
-use Rattle.pass.specs.PassLaws.{Lists, lists-passed, done-answer}
-use Rattle.pass.specs.WorkLaws.{Ready, pass-length}
+use Rattle.pass.specs.PassLaws.{lists-passed, done-answer}
 use Rattle.pass.proofs.Refusals.{refused-answer, passed-on}
 use Rattle.pass.proofs.tested_numbers.Statement.{statement}
 use Rattle.pass.proofs.tested_numbers.Tie as tie

@@ -1,15 +1,13 @@
 use borrow.Author.Needs.{needs}
-use mathlib.Core.Path.{_≡_, sym, ap, _∙_}
-use mathlib.Core.Bool.{true, false, _&&_}
-use Prim.Native.Nat.{ℕ, _*_, _/_, _≤_, _<_}
+use mathlib.Core.Path.{_≡_, ap, _∙_}
+use Prim.Native.Nat.{ℕ, _*_, _/_, _<_}
 use native.Mathlib.Omega.{arith}
 use lib.Dec.{ltb}
 use borrow.Author.Tests.{ltb-true}
 use Rattle.edges.specs.Decision.{decision}
 use Rattle.edges.specs.DecisionLaws.{decision-level}
-use Rattle.edges.specs.GridLaws.{cell-first, cell-along, edge-count-small, edge-len-small}
+use Rattle.edges.specs.GridLaws.{cell-first, edge-count-small, edge-len-small}
 use Rattle.edges.specs.SuperblockFilter.{planeX, planeY}
-use Rattle.edges.specs.declared.decision.Decision.{Decision}
 use Rattle.window.specs.WindowLaws.{both}
 use Rattle.pass.specs.Pass.{Setting, setting, position, decisionAt}
 use Rattle.pass.specs.WorkLaws.{cellStart, cellLen, len-cell, start-cell, cell-run, cell-idle}

@@ -1,13 +1,11 @@
 use borrow.Author.Needs.{needs}
-use mathlib.Core.Bool.{true, false}
-use mathlib.Core.Path.{_≡_, refl, sym, ap, _∙_}
-use Prim.Native.Nat.{ℕ, _*_, _^_, _≤_, _<_}
-use native.Mathlib.Omega.{arith}
+use mathlib.Core.Bool.{false}
+use mathlib.Core.Path.{_≡_, sym, _∙_}
+use Prim.Native.Nat.{ℕ, _*_, _^_}
 use lib.ListN.{length}
-use Rattle.base.specs.First.{found, first}
+use Rattle.base.specs.First.{found}
 use Rattle.base.specs.FirstLaws.{first-below, first-past}
 use Rattle.edges.specs.Decision.{levelless}
-use Rattle.edges.specs.SuperblockFilter.{edgeCount}
 use Rattle.geometry.specs.Frame.{cellsFrom}
 use Rattle.window.specs.Window.{badWindow, badSample}
 use Rattle.window.specs.WindowLaws.{Lent, lent}
