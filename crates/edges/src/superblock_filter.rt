@@ -234,7 +234,7 @@ pub fn edge_count(s: Superblock, pass: Pass) -> usize
 }
 
 // n luma samples along an edge, in the samples of the plane.
-pub fn along(s: Superblock, pass: Pass, n: usize) -> usize
+pub(crate) fn along(s: Superblock, pass: Pass, n: usize) -> usize
     ensures { λ r. ⌜ (r ≡ shr n (alongSub s pass)) × (r ≤ n) ⌝ }
 {
     match pass {
