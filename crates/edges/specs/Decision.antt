@@ -10,7 +10,8 @@ use Rattle.cells.specs.declared.LfCell.{LfCell}
 use Rattle.geometry.specs.declared.Pass.{Pass}
 use Rattle.geometry.specs.declared.Superblock.{Superblock}
 use Rattle.edges.specs.FilterSize.{filterSize}
-use Rattle.edges.specs.SuperblockFilter.{sub, edgeLen, lumaX, lumaY, loopCell, isBlockEdge, isTxEdge, is32Edge, onScreen, applyFilter}
+use Rattle.edges.specs.SuperblockFilter.{loopCell, isBlockEdge, isTxEdge, is32Edge, onScreen, applyFilter}
+use Rattle.positions.specs.Positions.{sub, edgeLen, lumaX, lumaY}
 use Rattle.edges.specs.declared.decision.Decision.{Decision}
 
 -- the place of the cell at (loopRow, loopCol) among the cells of the superblock row

@@ -18,7 +18,8 @@ use Rattle.geometry.specs.declared.Pass.the-variants.{Vertical, Horizontal}
 use Rattle.geometry.specs.declared.Superblock.{Superblock}
 use Rattle.edges.specs.Decision.{cellIndex, decisionBy, decision}
 use Rattle.edges.specs.FilterSize.{baseSize, atLast, filterSize}
-use Rattle.edges.specs.SuperblockFilter.{multiple, sub, alongSub, lumaX, lumaY, loopCell, isBlockEdge, lastColumn, isTxEdge, is32Edge, atBorder, onScreen, applyFilter}
+use Rattle.edges.specs.SuperblockFilter.{multiple, loopCell, isBlockEdge, lastColumn, isTxEdge, is32Edge, atBorder, onScreen, applyFilter}
+use Rattle.positions.specs.Positions.{sub, alongSub, lumaX, lumaY}
 use Rattle.edges.specs.declared.decision.Decision.{Decision}
 
 -- a coordinate is compared with the border of a cell by its own cell alone

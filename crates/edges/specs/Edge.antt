@@ -1,6 +1,6 @@
 -- Document 01's edge facts: 8.8.2 steps 1 to 15 at one position, with refusals.
 -- Assumes nothing.
-use mathlib.Core.Bool.{Bool, cond, _||_}
+use mathlib.Core.Bool.{Bool, _||_}
 use Prim.Native.Nat.{ℕ}
 use lib.Dec.{eqb, ltb, leb}
 use Rattle.base.specs.Outcome.{Outcome, accepted, refused, refuse}
@@ -8,9 +8,9 @@ use Rattle.blocks.specs.BlockSizes.{num8x8Wide, num8x8High}
 use Rattle.blocks.specs.ModeInfo.{badBlock, sbSize, isIntra}
 use Rattle.geometry.specs.Frame.{badSubsampling, badFrameSize, badStart}
 use Rattle.geometry.specs.declared.Pass.{Pass}
-use Rattle.geometry.specs.declared.Pass.the-variants.{Vertical, Horizontal}
 use Rattle.geometry.specs.declared.Superblock.{Superblock}
-use Rattle.edges.specs.SuperblockFilter.{sub, edgeCount, edgeLen, lumaX, lumaY, loopCell, isBlockEdge, isTxEdge, is32Edge, onScreen, applyFilter}
+use Rattle.edges.specs.SuperblockFilter.{loopCell, isBlockEdge, isTxEdge, is32Edge, onScreen, applyFilter}
+use Rattle.positions.specs.Positions.{sub, edgeCount, edgeLen, lumaX, lumaY, passOf}
 use Rattle.edges.specs.FilterSize.{filterSize}
 use Rattle.edges.specs.declared.superblock_filter.SuperblockFilterMi.{SuperblockFilterMi}
 use Rattle.edges.specs.declared.superblock_filter.SuperblockFilterEdge.{SuperblockFilterEdge}
@@ -46,10 +46,6 @@ edgeFacts s pass edge i mi =
 -- 16
 unfoldable pub offGrid : Superblock → Pass → (edge i : ℕ) → Bool
 offGrid s pass edge i = leb (edgeCount s pass) edge || leb (edgeLen s pass) i
-
--- the pass by its number
-abbrev pub passOf : ℕ → Pass
-passOf pass = cond (eqb pass 0) Vertical Horizontal
 
 -- subsampling flags as numbers
 abbrev pub superblockOf : (subX subY miCols miRows row col : ℕ) → Superblock

@@ -1,8 +1,6 @@
 pub mod SuperblockFilter
 pub mod FilterSize
 pub mod Edge
-pub mod EdgeLaws
-pub mod GridLaws
 pub mod ScreenLaws
 pub mod Decision
 pub mod DecisionLaws

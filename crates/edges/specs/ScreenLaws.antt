@@ -13,7 +13,8 @@ use Rattle.geometry.specs.Frame.{rowsFrom, cellsFrom}
 use Rattle.geometry.specs.declared.Pass.{Pass}
 use Rattle.geometry.specs.declared.Pass.the-variants.{Vertical, Horizontal}
 use Rattle.geometry.specs.declared.Superblock.{Superblock}
-use Rattle.edges.specs.SuperblockFilter.{Placed, edgeCount, edgeLen, lumaX, lumaY, loopCell, onScreen}
+use Rattle.edges.specs.SuperblockFilter.{loopCell, onScreen}
+use Rattle.positions.specs.Positions.{Placed, edgeCount, edgeLen, lumaX, lumaY}
 
 -- luma coordinates in the frame and in the superblock row
 pub record Seen (s : Superblock) (x y : ℕ) : Type 0 where

@@ -6,24 +6,25 @@ ghost use lib.ListN.{length};
 ghost use Rattle.base.specs.First.{first};
 ghost use Rattle.cells.specs.Cell.{widthLog2, heightLog2, Fields};
 ghost use Rattle.geometry.specs.Frame.{cellsFrom};
-ghost use Rattle.edges.specs.SuperblockFilter.{Placed, sub, edgeCount, edgeLen, lumaX, lumaY, loopCell, isBlockEdge, onScreen};
+ghost use Rattle.edges.specs.SuperblockFilter.{loopCell, isBlockEdge, onScreen};
+ghost use Rattle.positions.specs.Positions.{Placed, sub, edgeCount, edgeLen, lumaX, lumaY};
 ghost use Rattle.edges.specs.Decision.{decisionBy, decision, levelless};
 ghost use Rattle.edges.specs.ScreenLaws.{Seen};
 use crate::filter_size::filter_size;
-use crate::superblock_filter::along;
 use crate::superblock_filter::apply_filter;
-use crate::superblock_filter::edge_count;
 use crate::superblock_filter::is_32_edge;
 use crate::superblock_filter::is_tx_edge;
 use crate::superblock_filter::loop_cell;
-use crate::superblock_filter::luma_x;
-use crate::superblock_filter::luma_y;
 use crate::superblock_filter::on_screen;
 use crate::superblock_filter::two_to;
 use cells::LfCell;
 use geometry::Luma;
 use geometry::Pass;
 use geometry::Superblock;
+use positions::along;
+use positions::edge_count;
+use positions::luma_x_unchecked;
+use positions::luma_y_unchecked;
 
 // Whether a position is filtered, with which size and level, and whether its cell has a level at all.
 pub struct Decision {
@@ -106,8 +107,8 @@ pub fn decide_unchecked(
     requires { ⌜ Placed s × (edge < edgeCount s pass) × (i < edgeLen s pass) × (cellsFrom (s .row) (s .cols) (s .rows) ≤ length (now cells)) ⌝ }
     ensures { λ r. ⌜ r ≡ decision s pass chroma (now (cells .entry)) edge i ⌝ }
 {
-    let x = luma_x(s, pass, edge, i);
-    let y = luma_y(s, pass, edge, i);
+    let x = luma_x_unchecked(s, pass, edge, i);
+    let y = luma_y_unchecked(s, pass, edge, i);
     if on_screen(s, pass, x, y) {
         let at = cell_index(s, x, y);
         let c = LfCell::unpack(cells[at]);

@@ -2,9 +2,9 @@
 ghost use mathlib.Core.Path.{_≡_};
 ghost use Prim.Native.Nat.{_*_, _^_, _≤_, _<_};
 ghost use Rattle.blocks.specs.ModeInfoLaws.{Block};
-ghost use Rattle.geometry.specs.Coordinates.{shl, shr};
-ghost use Rattle.edges.specs.SuperblockFilter.{Placed, alongSub, edgeCount, edgeLen, lumaX, lumaY, planeX, planeY, loopCell, lastColumn, isTxEdge, is32Edge, atBorder, onScreen, applyFilter};
-ghost use Rattle.edges.specs.Edge.{blockEdge, edgeFacts, passOf, superblockFilterEdge, outcomeOf};
+ghost use Rattle.edges.specs.SuperblockFilter.{loopCell, lastColumn, isTxEdge, is32Edge, atBorder, onScreen, applyFilter};
+ghost use Rattle.positions.specs.Positions.{Placed};
+ghost use Rattle.edges.specs.Edge.{blockEdge, edgeFacts, superblockFilterEdge, outcomeOf};
 use crate::filter_size::filter_size;
 use blocks::mode_info::bad_block;
 use blocks::mode_info::is_intra;
@@ -13,11 +13,15 @@ use blocks::partition::num_8x8_high_unchecked;
 use blocks::partition::num_8x8_wide_unchecked;
 use geometry::Luma;
 use geometry::Pass;
-use geometry::Plane;
 use geometry::Superblock;
 use geometry::bad_frame_size;
 use geometry::bad_start;
 use geometry::bad_subsampling;
+use positions::edge_count;
+use positions::edge_len;
+use positions::luma_x_unchecked;
+use positions::luma_y_unchecked;
+use positions::pass_of;
 
 // What an edge reads of its cell: MiSize, the transform that holds in the plane, skip, and reference 0.
 pub struct SuperblockFilterMi {
@@ -52,60 +56,12 @@ pub enum EdgeAnswer {
     Grid,
 }
 
-fn doubled(n: usize, sub: bool) -> usize
-    requires { ⌜ n ≤ 65536 ⌝ }
-    ensures { λ r. ⌜ (r ≡ shl n sub) × (r ≤ 2 * n) ⌝ }
-{
-    if sub { 2 * n } else { n }
-}
-
-fn halved(n: usize, sub: bool) -> usize
-    ensures { λ r. ⌜ (r ≡ shr n sub) × (r ≤ n) ⌝ }
-{
-    if sub { n / 2 } else { n }
-}
-
-pub(crate) fn luma_x(s: Superblock, pass: Pass, edge: usize, i: usize) -> Luma
-    requires { ⌜ Placed s × (edge < 16) × (i < 64) ⌝ }
-    ensures { λ r. ⌜ (r .0 ≡ lumaX s pass edge i) × (r .0 < 65792) ⌝ }
-{
-    match pass {
-        Pass::Vertical => Luma(s.col * 8 + edge * doubled(4, s.subx)),
-        Pass::Horizontal => Luma(s.col * 8 + doubled(i, s.subx)),
-    }
-}
-
-pub(crate) fn luma_y(s: Superblock, pass: Pass, edge: usize, i: usize) -> Luma
-    requires { ⌜ Placed s × (edge < 16) × (i < 64) ⌝ }
-    ensures { λ r. ⌜ (r .0 ≡ lumaY s pass edge i) × (r .0 < 65792) ⌝ }
-{
-    match pass {
-        Pass::Vertical => Luma(s.row * 8 + doubled(i, s.suby)),
-        Pass::Horizontal => Luma(s.row * 8 + edge * doubled(4, s.suby)),
-    }
-}
-
-// The position's place in its plane.
-pub fn plane_x_unchecked(s: Superblock, pass: Pass, edge: usize, i: usize) -> Plane
-    requires { ⌜ Placed s × (edge < 16) × (i < 64) ⌝ }
-    ensures { λ r. ⌜ (r .0 ≡ planeX s pass edge i) × (r .0 < 65792) ⌝ }
-{
-    luma_x(s, pass, edge, i).in_plane(s.subx)
-}
-
-pub fn plane_y_unchecked(s: Superblock, pass: Pass, edge: usize, i: usize) -> Plane
-    requires { ⌜ Placed s × (edge < 16) × (i < 64) ⌝ }
-    ensures { λ r. ⌜ (r .0 ≡ planeY s pass edge i) × (r .0 < 65792) ⌝ }
-{
-    luma_y(s, pass, edge, i).in_plane(s.suby)
-}
-
 // A cell's column or row, on the subsampling grid.
 pub(crate) fn loop_cell(at: Luma, sub: bool) -> usize
     requires { ⌜ at .0 < 65792 ⌝ }
     ensures { λ r. ⌜ r ≡ loopCell sub (at .0) ⌝ }
 {
-    doubled(halved(at.0 / 8, sub), sub)
+    if sub { 2 * (at.0 / 8 / 2) } else { at.0 / 8 }
 }
 
 fn is_block_edge(s: Superblock, pass: Pass, x: Luma, y: Luma, mi_size: u8) -> bool
@@ -202,8 +158,8 @@ pub fn superblock_filter_edge_unchecked(
     requires { ⌜ Placed s × (edge < 16) × (i < 64) × Block (mi .«mi_size») (mi .«tx_sz») (mi .skip) ⌝ }
     ensures { λ r. ⌜ r ≡ edgeFacts s pass edge i mi ⌝ }
 {
-    let x = luma_x(s, pass, edge, i);
-    let y = luma_y(s, pass, edge, i);
+    let x = luma_x_unchecked(s, pass, edge, i);
+    let y = luma_y_unchecked(s, pass, edge, i);
     let block = is_block_edge(s, pass, x, y, mi.mi_size);
     let transform = is_tx_edge(s, pass, edge, x, mi.tx_sz);
     let is_32 = is_32_edge(edge);
@@ -221,41 +177,6 @@ pub fn superblock_filter_edge_unchecked(
         on_screen: screen,
         apply_filter: apply_filter(screen, block, transform, intra, mi.skip == 1),
         size,
-    }
-}
-
-pub fn edge_count(s: Superblock, pass: Pass) -> usize
-    ensures { λ r. ⌜ (r ≡ edgeCount s pass) × (r ≤ 16) ⌝ }
-{
-    match pass {
-        Pass::Vertical => halved(16, s.subx),
-        Pass::Horizontal => halved(16, s.suby),
-    }
-}
-
-// n luma samples along an edge, in the samples of the plane.
-pub(crate) fn along(s: Superblock, pass: Pass, n: usize) -> usize
-    ensures { λ r. ⌜ (r ≡ shr n (alongSub s pass)) × (r ≤ n) ⌝ }
-{
-    match pass {
-        Pass::Vertical => halved(n, s.suby),
-        Pass::Horizontal => halved(n, s.subx),
-    }
-}
-
-pub fn edge_len(s: Superblock, pass: Pass) -> usize
-    ensures { λ r. ⌜ (r ≡ edgeLen s pass) × (r ≤ 64) ⌝ }
-{
-    along(s, pass, 64)
-}
-
-pub fn pass_of(pass: u8) -> Pass
-    ensures { λ r. ⌜ r ≡ passOf pass ⌝ }
-{
-    if pass == 0 {
-        Pass::Vertical
-    } else {
-        Pass::Horizontal
     }
 }
 

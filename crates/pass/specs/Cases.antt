@@ -14,7 +14,8 @@ use Rattle.base.specs.Outcome.{Outcome, refused, returned}
 use Rattle.cells.specs.Cell.{cellOf, badWord}
 use Rattle.edges.specs.Decision.{cellIndex, decisionBy, decision, levelless}
 use Rattle.edges.specs.FilterSize.{filterSize}
-use Rattle.edges.specs.SuperblockFilter.{edgeCount, edgeLen, lumaX, lumaY, loopCell, isBlockEdge, isTxEdge, is32Edge, onScreen, applyFilter, planeX, planeY}
+use Rattle.edges.specs.SuperblockFilter.{loopCell, isBlockEdge, isTxEdge, is32Edge, onScreen, applyFilter}
+use Rattle.positions.specs.Positions.{edgeCount, edgeLen, lumaX, lumaY, planeX, planeY}
 use Rattle.geometry.specs.Frame.{badSubsampling, badFrameSize, badStart}
 use Rattle.geometry.specs.declared.Pass.the-variants.{Vertical}
 use Rattle.line.specs.Masks.{hevMask, filterMask, flatAt, flatMask}

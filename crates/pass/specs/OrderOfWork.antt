@@ -9,8 +9,7 @@ use Prim.Native.Nat.{ℕ, _+_, _*_, _<_}
 use native.Mathlib.Omega.{arith}
 use lib.ListN.{length, getD}
 use Rattle.base.specs.Outcome.{accepted}
-use Rattle.edges.specs.Edge.{passOf}
-use Rattle.edges.specs.SuperblockFilter.{edgeCount, edgeLen, lumaX, lumaY, planeX, planeY}
+use Rattle.positions.specs.Positions.{passOf, edgeCount, edgeLen, lumaX, lumaY, planeX, planeY}
 use Rattle.geometry.specs.Coordinates.{shl, shr}
 use Rattle.geometry.specs.declared.Pass.{Pass}
 use Rattle.geometry.specs.declared.Pass.the-variants.{Vertical, Horizontal}

@@ -10,8 +10,7 @@ use Rattle.base.specs.First.{refuseFirst}
 use Rattle.base.specs.Outcome.{Outcome, accepted, refuse, Returned}
 use Rattle.cells.specs.Cell.{badWord}
 use Rattle.edges.specs.Decision.{decision, levelless}
-use Rattle.edges.specs.Edge.{passOf}
-use Rattle.edges.specs.SuperblockFilter.{edgeCount, edgeLen, planeX, planeY}
+use Rattle.positions.specs.Positions.{passOf, edgeCount, edgeLen, planeX, planeY}
 use Rattle.edges.specs.declared.decision.Decision.{Decision}
 use Rattle.geometry.specs.Frame.{badSubsampling, badFrameSize, badStart, cellsFrom}
 use Rattle.geometry.specs.declared.Pass.{Pass}

@@ -13,10 +13,8 @@ use Rattle.base.specs.First.{found, first-is}
 use Rattle.base.specs.Outcome.{Outcome, accepted, refused, returned, Answers}
 use Rattle.base.specs.OutcomeLaws.{passed, result-is, refuse-place}
 use Rattle.edges.specs.Decision.{levelless}
-use Rattle.edges.specs.Edge.{passOf}
-use Rattle.edges.specs.EdgeLaws.{placed}
-use Rattle.edges.specs.GridLaws.{edge-count-small}
-use Rattle.edges.specs.SuperblockFilter.{Placed, edgeCount}
+use Rattle.positions.specs.Positions.{passOf, Placed, edgeCount}
+use Rattle.positions.specs.PositionsLaws.{placed, edge-count-small}
 use Rattle.geometry.specs.Frame.{badSubsampling, badFrameSize, badStart, cellsFrom}
 use Rattle.geometry.specs.FrameLaws.{sized, cells-small}
 use Rattle.geometry.specs.declared.Pass.{Pass}

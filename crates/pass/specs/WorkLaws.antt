@@ -11,8 +11,8 @@ use borrow.Author.Tests.{lt-ltb}
 use Rattle.base.specs.Depth.{supported}
 use Rattle.edges.specs.Decision.{decision}
 use Rattle.edges.specs.DecisionLaws.{same-decision}
-use Rattle.edges.specs.GridLaws.{plane-vertical, plane-horizontal}
-use Rattle.edges.specs.SuperblockFilter.{Placed, alongSub, edgeCount, edgeLen, planeX, planeY}
+use Rattle.positions.specs.PositionsLaws.{plane-vertical, plane-horizontal}
+use Rattle.positions.specs.Positions.{Placed, alongSub, edgeCount, edgeLen, planeX, planeY}
 use Rattle.edges.specs.declared.decision.Decision.{Decision}
 use Rattle.geometry.specs.Coordinates.{shr}
 use Rattle.geometry.specs.Frame.{cellsFrom}

@@ -5,7 +5,7 @@ ghost use Prim.Native.Nat.{_≤_};
 ghost use lib.ListN.{length};
 ghost use Rattle.base.specs.Depth.{supported};
 ghost use Rattle.base.specs.Outcome.{accepted, Answers};
-ghost use Rattle.edges.specs.SuperblockFilter.{Placed};
+ghost use Rattle.positions.specs.Positions.{Placed};
 ghost use Rattle.geometry.specs.Frame.{cellsFrom};
 ghost use Rattle.pass.specs.Pass.{setting, superblockLoopFilter, listsRefused, superblockLoopFilterCells, returnedOf};
 ghost use Rattle.pass.specs.WorkLaws.{Ready};
@@ -14,12 +14,12 @@ mod edge;
 mod faults;
 
 use edge::filter_edge;
-use edges::superblock_filter::edge_count;
-use edges::superblock_filter::pass_of;
 use faults::list_faults;
 use faults::number_faults;
 use geometry::Pass;
 use geometry::Superblock;
+use positions::edge_count;
+use positions::pass_of;
 use window::WindowShape;
 
 // What became of a pass: it was run, or refused.
@@ -59,8 +59,8 @@ pub fn superblock_loop_filter_unchecked(
     }
 }
 
-// The tests of the lists, and then the work.
-fn tested_numbers(
+// The numbers are tested: now the lists, and then the work.
+fn test_lists_and_filter(
     samples: &mut [u16],
     g: WindowShape,
     cells: &[u32],
@@ -122,7 +122,7 @@ pub fn superblock_loop_filter_cells(
             row,
             col,
         };
-        return tested_numbers(
+        return test_lists_and_filter(
             samples,
             g,
             cells,

@@ -9,7 +9,7 @@ use lib.ListN.{getD}
 use Rattle.blocks.specs.BlockSizes.{uvTxSize}
 use Rattle.edges.specs.Decision.{cellIndex}
 use Rattle.edges.specs.Edge.{edgeFacts}
-use Rattle.edges.specs.SuperblockFilter.{edgeCount, edgeLen}
+use Rattle.positions.specs.Positions.{edgeCount, edgeLen}
 use Rattle.edges.specs.declared.superblock_filter.SuperblockFilterEdge.{SuperblockFilterEdge}
 use Rattle.edges.specs.declared.superblock_filter.SuperblockFilterMi.{SuperblockFilterMi}
 use Rattle.geometry.specs.Coordinates.{shr}

@@ -7,8 +7,8 @@ use Rattle.pass.proofs.Refusals.{refused-answer, passed-on, answers-on}
 use Rattle.pass.proofs.superblock_loop_filter_cells.Statement.{statement}
 use Rattle.pass.proofs.superblock_loop_filter_cells.Tie as tie
 
-tested-numbers-requires : tie.Need-tested-numbers-requires
-tested-numbers-requires c κs =
+test-lists-and-filter-requires : tie.Need-test-lists-and-filter-requires
+test-lists-and-filter-requires c κs =
     let start = c .before .before .before .before .before .before .before in
     let a = start .args in
     let f = c .before .before .before .before .number-faults in
@@ -20,7 +20,7 @@ unfolding superblockLoopFilterCells
 returns c =
     let f = c .before .before .before .before .before .before .before .number-faults in
     answers-on _ _ _ _ _ (passed-on (f .result) _ _ (c .before .before .before .before .before .enum-told .given .1) (f .ensures _))
-    (rw (c .before .before .before .pass-of .ensures) at (c .before .before .tested-numbers .ensures))
+    (rw (c .before .before .before .pass-of .ensures) at (c .before .before .test-lists-and-filter .ensures))
 
 returns-2 : tie.Need-returns-2
 unfolding superblockLoopFilterCells
@@ -29,4 +29,4 @@ returns-2 c = refused-answer (c .before .number-faults .result) (c .match .keys2
 pub superblock-loop-filter-cells-spec : {M : Type 1} → statement M
 superblock-loop-filter-cells-spec =
     tie.close
-    (tie.spec (search needs) (search needs) (search needs) tested-numbers-requires (search needs) returns returns-2)
+    (tie.spec (search needs) (search needs) (search needs) test-lists-and-filter-requires (search needs) returns returns-2)

@@ -6,9 +6,9 @@ use native.Mathlib.Nat.{sub-self, sub-zero}
 use native.Mathlib.Omega.{arith}
 use Rattle.base.specs.First.{firstFrom, first, first-here, first-end}
 use Rattle.edges.specs.Decision.{withoutLevel, levelless}
-use Rattle.edges.specs.GridLaws.{cell-first}
+use Rattle.positions.specs.PositionsLaws.{cell-first}
 use Rattle.edges.specs.LevellessLaws.{cellPlace, place-edges, levelless-at, first-next-cell}
-use Rattle.edges.specs.SuperblockFilter.{alongSub}
+use Rattle.positions.specs.Positions.{alongSub}
 use Rattle.edges.proofs.decision.first_levelless_unchecked.Statement.{statement}
 use Rattle.edges.proofs.decision.first_levelless_unchecked.Tie as tie
 

@@ -4,7 +4,7 @@ use Prim.Native.Nat.{ℕ}
 use mir.Syntax.{w32}
 use Rattle.base.specs.Machine.{back}
 use Rattle.geometry.specs.declared.Luma.{Luma}
-use Rattle.edges.specs.SuperblockFilter.{lumaX, lumaY}
+use Rattle.positions.specs.Positions.{lumaX, lumaY}
 use Rattle.edges.specs.Edge.{edgeFacts}
 use Rattle.edges.proofs.superblock_filter.superblock_filter_edge_unchecked.Statement.{
   statement,
@@ -34,8 +34,8 @@ returns c =
       at-screen .before .is-32-edge .ensures,
       at-tx .is-tx-edge .ensures,
       at-tx .before .is-block-edge .ensures,
-      luma (lumaY (a .s) (a .pass) (a .edge) (a .i)) (at-y .luma-y .ensures .0),
-      luma (lumaX (a .s) (a .pass) (a .edge) (a .i)) (at-y .before .luma-x .ensures .0),
+      luma (lumaY (a .s) (a .pass) (a .edge) (a .i)) (at-y .luma-y-unchecked .ensures .0),
+      luma (lumaX (a .s) (a .pass) (a .edge) (a .i)) (at-y .before .luma-x-unchecked .ensures .0),
     )
 
 pub superblock-filter-edge-unchecked-spec : {M : Type 1} → statement M

@@ -6,8 +6,8 @@ use lib.Dec.{ltb}
 use borrow.Author.Tests.{ltb-true}
 use Rattle.edges.specs.Decision.{decision}
 use Rattle.edges.specs.DecisionLaws.{decision-level}
-use Rattle.edges.specs.GridLaws.{cell-first, edge-count-small, edge-len-small}
-use Rattle.edges.specs.SuperblockFilter.{planeX, planeY}
+use Rattle.positions.specs.PositionsLaws.{cell-first, edge-count-small, edge-len-small}
+use Rattle.positions.specs.Positions.{planeX, planeY}
 use Rattle.window.specs.WindowLaws.{both}
 use Rattle.pass.specs.Pass.{Setting, setting, position, decisionAt}
 use Rattle.pass.specs.WorkLaws.{cellStart, cellLen, len-cell, start-cell, cell-run, cell-idle}
