@@ -35,7 +35,7 @@ use Rattle.row.specs.Row.{ModeInfo, row as rowOf}
 use Rattle.row.specs.RowStandard.{Made, Standard, row-made, row-standard}
 use Rattle.strength.specs.Strength.{modeType}
 use Rattle.window.specs.declared.WindowShape.{WindowShape}
-use Rattle.standard.specs.StandardPass.{Frame, cellAt, miAt, factsAt, lvlAt, standardStep, standardPass}
+use Rattle.standard.specs.StandardPass.{Frame, cellAt, miAt, factsAt, lvlAt, standardStep, standardPositions, standardPass}
 
 -- ---- one cell
 
@@ -109,12 +109,6 @@ module _ (f : Frame) (pass : Pass) (words : List ℕ) (cells : List ℕ) (n : �
         ap (λ (d : Decision). d .level) (by-cell e)
         ∙ level-same _ _ _ _ _ _ _ _ _ cell (standard-cell h) (sym (ap (λ (d : Decision). d .present) (by-cell e)) ∙ present)
 
-    -- step 17 of a position that has a level
-    step-same : (g : WindowShape) → k < n → onScreen (f .superblock) pass x y ≡ true → decisionAt over pass p .present ≡ true → (samples : List ℕ)
-        → step g over pass p samples ≡ standardStep g f pass p samples
-    unfolding step lineOf standardStep planeX planeY factsAt edgeFacts
-    step-same g h e present samples = rw (size-same h e, lvl-same h e present)
-
 -- ---- all positions
 
 module _ (f : Frame) (pass : Pass) (words cells : List ℕ) (made : Made (f .info) (f .levels) (f .subX) (f .subY) (cellsFrom (f .superblock .row) (f .superblock .cols) (f .superblock .rows)) cells words) (at : Placed (f .superblock)) where
@@ -176,26 +170,44 @@ module _ (f : Frame) (pass : Pass) (words cells : List ℕ) (made : Made (f .inf
         without : (d : Decision) → d .decided ≡ true → withoutLevel d ≡ false → d .present ≡ true
         without d on no-hit = not-false (d .present) (rw on at no-hit)
 
+    -- what is decided is on screen, reads a cell of the row, and has a level
+    module _ (p : Position) (m : List·Memᴰ p (decided setting-of pass)) where
+      on : isDecided setting-of pass p ≡ true
+      unfolding decided
+      on = T-true (isDecided setting-of pass p) (select-passes (isDecided setting-of pass) positions m)
+        where
+          T-true : (b : Bool) → T b → b ≡ true
+          T-true true t = refl
+          T-true false t = absurd t
+
+      of-grid : List·Memᴰ p positions
+      unfolding decided
+      of-grid = select-mem (isDecided setting-of pass) positions m
+
+      read : cellAt f pass p < n
+      read = let c = on-grid p of-grid in index-small (p .edge) (p .i) (c .0) (c .1) (decided-seen p on)
+
+    same-size : (p : Position) → List·Memᴰ p (decided setting-of pass) → decisionAt setting-of pass p .size ≡ factsAt f pass p .size
+    same-size p m = size-same f pass words cells n made p (read p m) (decided-seen p (on p m))
+
+    same-level : (p : Position) → List·Memᴰ p (decided setting-of pass) → decisionAt setting-of pass p .level ≡ lvlAt f pass p
+    same-level p m = lvl-same f pass words cells n made p (read p m) (decided-seen p (on p m)) (has-level p (of-grid p m) (on p m))
+
+    same-positions : decided setting-of pass ≡ standardPositions f pass
+    unfolding decided standardPositions
+    same-positions = select-same (isDecided setting-of pass) _ positions same-decided
+
     -- step 17 does what the pass's step does
     same-step : (g : WindowShape) (p : Position) → List·Memᴰ p (decided setting-of pass) → (samples : List ℕ) → step g setting-of pass p samples ≡ standardStep g f pass p samples
-    unfolding decided
-    same-step g p m samples =
-        let on = T-true (isDecided setting-of pass p) (select-passes (isDecided setting-of pass) positions m) in
-        let grid = select-mem (isDecided setting-of pass) positions m in
-        let c = on-grid p grid in
-        let seen = decided-seen p on in
-        step-same f pass words cells n made p g (index-small (p .edge) (p .i) (c .0) (c .1) seen) seen (has-level p grid on) samples
-      where
-        T-true : (b : Bool) → T b → b ≡ true
-        T-true true t = refl
-        T-true false t = absurd t
+    unfolding step lineOf standardStep planeX planeY factsAt edgeFacts
+    same-step g p m samples = rw (same-size p m, same-level p m)
 
     -- the pass over the words is the standard's pass over the lists
     same-pass : (g : WindowShape) (samples : List ℕ) → superblockLoopFilter g setting-of pass samples ≡ standardPass g f pass samples
-    unfolding superblockLoopFilter standardPass decided
+    unfolding superblockLoopFilter standardPass
     same-pass g samples =
         run-same (step g setting-of pass) (standardStep g f pass) (decided setting-of pass) (same-step g) samples
-        ∙ ap (λ (l : List Position). run (standardStep g f pass) l samples) (select-same (isDecided setting-of pass) _ positions same-decided)
+        ∙ ap (λ (l : List Position). run (standardStep g f pass) l samples) same-positions
 
 -- ---- THE TIE
 
@@ -205,13 +217,27 @@ frameOf info levels sharpness depth subX subY miCols miRows row col plane =
     let t = settingOf sharpness depth subX subY miCols miRows row col plane [] in
     record { superblock = t .superblock; chroma = t .chroma; subX = eqb subX 1; subY = eqb subY 1; sharpness = sharpness; depth = depth; info = info; levels = levels }
 
--- Where the row makes words of the lists, and the pass over those words is accepted, its result is the standard's pass over the lists.
+-- Positions, sizes and levels are those of steps 1 to 16, and the result is step 17 over them.
+pub record StandardRun (g : WindowShape) (f : Frame) (t : Setting) (pass : Pass) (samples result : List ℕ) : Type 0 where
+  pub positions-are : decided t pass ≡ standardPositions f pass
+  pub size-is : (p : Position) → List·Memᴰ p (decided t pass) → decisionAt t pass p .size ≡ factsAt f pass p .size
+  pub level-is : (p : Position) → List·Memᴰ p (decided t pass) → decisionAt t pass p .level ≡ lvlAt f pass p
+  pub result-is : result ≡ standardPass g f pass samples
+
+-- Where the row makes words of the lists, and the pass over those words is accepted, it is the standard's pass over the lists.
 pub pass-standard : (info : ModeInfo) (levels : List ℕ) (g : WindowShape) (sharpness depth subX subY miCols miRows row col plane pass : ℕ) (cells words samples result : List ℕ)
     → rowOf info levels sharpness depth subX subY miCols miRows row cells ≡ accepted words
     → superblockLoopFilterCells g sharpness depth subX subY miCols miRows row col plane pass words samples ≡ accepted result
-    → result ≡ standardPass g (frameOf info levels sharpness depth subX subY miCols miRows row col plane) (passOf pass) samples
+    → StandardRun g (frameOf info levels sharpness depth subX subY miCols miRows row col plane) (settingOf sharpness depth subX subY miCols miRows row col plane words) (passOf pass) samples result
 pass-standard info levels g sharpness depth subX subY miCols miRows row col plane pass cells words samples result made e =
+    let f = frameOf info levels sharpness depth subX subY miCols miRows row col plane in
     let r = ran g sharpness depth subX subY miCols miRows row col plane pass words samples result e in
-    r .result-is
-    ∙ same-pass (frameOf info levels sharpness depth subX subY miCols miRows row col plane) (passOf pass) words cells
-    (row-made info levels sharpness depth subX subY miCols miRows row cells words made) (r .numbers .placed-at _ _) (r .lists .levels-present) g samples
+    let m = row-made info levels sharpness depth subX subY miCols miRows row cells words made in
+    let at = r .numbers .placed-at _ _ in
+    let present = r .lists .levels-present in
+    record {
+      positions-are = same-positions f (passOf pass) words cells m at present;
+      size-is = same-size f (passOf pass) words cells m at present;
+      level-is = same-level f (passOf pass) words cells m at present;
+      result-is = r .result-is ∙ same-pass f (passOf pass) words cells m at present g samples;
+    }

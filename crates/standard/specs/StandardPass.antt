@@ -76,8 +76,8 @@ standardStep g f pass p samples =
     applied (stencil g pass x y (ltb 0 lvl) (sampleFiltering (f .depth) (facts .size) (strength .limit) (strength .blimit) (strength .thresh))) samples
 
 -- for edge and, inside, i: where applyFilter
+unfoldable pub standardPositions : Frame → Pass → List Position
+standardPositions f pass = select (λ p. factsAt f pass p .«apply_filter») (grid position (edgeCount (f .superblock) pass) (edgeLen (f .superblock) pass))
+
 unfoldable pub standardPass : WindowShape → Frame → Pass → List ℕ → List ℕ
-standardPass g f pass samples =
-    run (standardStep g f pass)
-    (select (λ p. factsAt f pass p .«apply_filter») (grid position (edgeCount (f .superblock) pass) (edgeLen (f .superblock) pass)))
-    samples
+standardPass g f pass samples = run (standardStep g f pass) (standardPositions f pass) samples
