@@ -1,8 +1,10 @@
 -- A packed cell: document 01's word of 32 bits for what the pass reads of a cell.
 -- Assumes nothing.
 use mathlib.Core.Bool.{Bool, cond, not, _&&_, _||_}
+use mathlib.Core.List.{List}
 use Prim.Native.Nat.{ℕ, _+_, _*_, _/_, _%_, _^_, _<_}
 use lib.Dec.{eqb}
+use lib.ListN.{getD}
 use Rattle.cells.specs.declared.LfCell.{LfCell}
 
 abbrev pub bit : Bool → ℕ
@@ -43,6 +45,10 @@ txOf c chroma = cond chroma (c .uvtx) (c .tx)
 -- 11: a zero bit is set, or the level is not 0 while it is absent
 unfoldable pub badWord : ℕ → Bool
 badWord w = not (eqb (w % 2 ^ 12) 0) || not (cellOf w .present) && not (eqb (cellOf w .level) 0)
+
+-- 11 at word k of a list
+abbrev pub badCell : (words : List ℕ) (k : ℕ) → Bool
+badCell words k = badWord (getD words k 0)
 
 -- fields that fit their bits
 pub record Fields (c : LfCell) : Type 0 where

@@ -1,7 +1,9 @@
 // A cell packed into a word.
 ghost use mathlib.Core.Path.{_≡_};
 ghost use Prim.Native.Nat.{_≤_};
-ghost use Rattle.cells.specs.Cell.{bit, packed, cellOf, badWord, Fields};
+ghost use lib.ListN.{length};
+ghost use Rattle.base.specs.First.{first, found};
+ghost use Rattle.cells.specs.Cell.{bit, packed, cellOf, badWord, badCell, Fields};
 
 // What the pass reads of a cell: logarithms of width and height in 8-sample blocks, for subsampling 0 and 1; transform and chroma
 // transform; document 01's skipped-inter, which is skip set and not intra, and level present; and the level, 0 where there is none.
@@ -60,4 +62,28 @@ pub fn bad_word(word: u32) -> bool
     ensures { λ r. ⌜ r ≡ badWord word ⌝ }
 {
     (word % 4096 != 0) | (word / 262144 % 2 != 1) & (word / 4096 % 64 != 0)
+}
+
+// The same of the first words of a list: whether one is bad, and the first that is, or the count.
+pub fn any_bad_word_unchecked(words: &[u32], count: usize) -> bool
+    requires { ⌜ count ≤ length (now words) ⌝ }
+    ensures { λ r. ⌜ r ≡ found (badCell (now (words .entry))) count ⌝ }
+{
+    let mut any = false;
+    for k in 0..count {
+        any = any | bad_word(words[k]);
+    }
+    any
+}
+
+pub fn first_bad_word_unchecked(words: &[u32], count: usize) -> usize
+    requires { ⌜ count ≤ length (now words) ⌝ }
+    ensures { λ r. ⌜ r ≡ first (badCell (now (words .entry))) count ⌝ }
+{
+    for k in 0..count {
+        if bad_word(words[k]) {
+            return k;
+        }
+    }
+    count
 }

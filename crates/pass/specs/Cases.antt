@@ -28,7 +28,8 @@ use Rattle.wide_filter.specs.WideFilter.{sumTo, smoothed, wideFilter}
 use Rattle.window.specs.Stencil.{gather, scatter, applied}
 use Rattle.window.specs.Window.{badWindow, badSample}
 use Rattle.window.specs.declared.WindowShape.{WindowShape}
-use Rattle.pass.specs.Pass.{Position, position, Setting, settingOf, isDecided, decided, lineOf, step, superblockLoopFilter, superblockLoopFilterCells}
+use Rattle.decided.specs.Decided.{Position, position, Setting, settingOf, isDecided, decided}
+use Rattle.pass.specs.Pass.{lineOf, step, superblockLoopFilter, superblockLoopFilterCells}
 
 -- two cells beside each other, 8 by 8 samples each, level 32
 abbrev over : ℕ → Setting

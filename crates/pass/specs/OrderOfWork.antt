@@ -21,7 +21,8 @@ use Rattle.window.specs.StencilLaws.{applied-exchange}
 use Rattle.window.specs.Window.{place}
 use Rattle.window.specs.WindowLaws.{Lent, Inside}
 use Rattle.window.specs.declared.WindowShape.{WindowShape}
-use Rattle.pass.specs.Pass.{Position, position, Setting, decisionAt, isDecided, decided, lineOf, filters, step, superblockLoopFilter, settingOf, superblockLoopFilterCells}
+use Rattle.decided.specs.Decided.{Position, position, Setting, decisionAt, isDecided, decided, filters, settingOf}
+use Rattle.pass.specs.Pass.{lineOf, step, superblockLoopFilter, superblockLoopFilterCells}
 use Rattle.pass.specs.PassLaws.{ran}
 use Rattle.pass.specs.WorkLaws.{pass-length}
 

@@ -8,7 +8,7 @@ use lib.ListN.{length, getD}
 use Rattle.base.specs.Depth.{supported}
 use Rattle.base.specs.First.{refuseFirst}
 use Rattle.base.specs.Outcome.{Outcome, accepted, refuse, Returned}
-use Rattle.cells.specs.Cell.{badWord}
+use Rattle.cells.specs.Cell.{badCell}
 use Rattle.edges.specs.Decision.{decision, levelless}
 use Rattle.positions.specs.Positions.{passOf, edgeCount, edgeLen, planeX, planeY}
 use Rattle.edges.specs.declared.decision.Decision.{Decision}
@@ -22,49 +22,15 @@ use Rattle.strength.specs.Strength.{strengthOf}
 use Rattle.window.specs.Stencil.{applied}
 use Rattle.window.specs.Window.{badWindow, badSample, stencil}
 use Rattle.window.specs.declared.WindowShape.{WindowShape}
+use Rattle.decided.specs.Decided.{Position, Setting, decisionAt, decided, filters, settingOf}
 use Rattle.pass.specs.declared.PassAnswer.{PassAnswer}
 use Rattle.pass.specs.declared.PassAnswer.the-variants.{Done, Sharpness, Depth, Subsampling, FrameSize, Row, Short, Plane, Column, Cell, Window, Sample, Level}
-
--- A position of a pass: i along an edge.
-pub record Position : Type 0 where
-  pub edge : ℕ
-  pub i : ℕ
-
-abbrev pub position : (edge i : ℕ) → Position
-position edge i = record { edge = edge; i = i }
-
--- What a pass is given beside its direction and its window: a superblock, with the subsampling that holds in the plane; whether the
--- plane is one of chroma; sharpness and depth; and the words of the superblock row's cells.
-pub record Setting : Type 0 where
-  pub superblock : Superblock
-  pub chroma : Bool
-  pub sharpness : ℕ
-  pub depth : ℕ
-  pub cells : List ℕ
-
-abbrev pub setting : Superblock → (chroma : Bool) (sharpness depth : ℕ) (cells : List ℕ) → Setting
-setting s chroma sharpness depth cells = record { superblock = s; chroma = chroma; sharpness = sharpness; depth = depth; cells = cells }
-
--- steps 1 to 16 at a position
-abbrev pub decisionAt : Setting → Pass → Position → Decision
-decisionAt t pass p = decision (t .superblock) pass (t .chroma) (t .cells) (p .edge) (p .i)
-
--- document 01's decided positions, edge and i rising
-unfoldable pub isDecided : Setting → Pass → Position → Bool
-isDecided t pass p = decisionAt t pass p .decided
-
-unfoldable pub decided : Setting → Pass → List Position
-decided t pass = select (isDecided t pass) (grid position (edgeCount (t .superblock) pass) (edgeLen (t .superblock) pass))
 
 -- the sample filtering process with the size and the strength of a decision
 unfoldable pub lineOf : Setting → Decision → List ℕ → List ℕ
 lineOf t d =
     let strength = strengthOf (d .level) (t .sharpness) in
     sampleFiltering (t .depth) (d .size) (strength .limit) (strength .blimit) (strength .thresh)
-
--- level 0 filters nothing
-abbrev pub filters : Decision → Bool
-filters d = ltb 0 (d .level)
 
 -- step 17 at a position, on the samples as they stand
 unfoldable pub step : WindowShape → Setting → Pass → Position → List ℕ → List ℕ
@@ -76,17 +42,6 @@ step g t pass p samples =
 -- THE PASS: the steps of the decided positions, in their order
 unfoldable pub superblockLoopFilter : WindowShape → Setting → Pass → List ℕ → List ℕ
 superblockLoopFilter g t pass samples = run (step g t pass) (decided t pass) samples
-
--- plane 0 counts as not subsampled
-abbrev pub settingOf : (sharpness depth subX subY miCols miRows row col plane : ℕ) (cells : List ℕ) → Setting
-settingOf sharpness depth subX subY miCols miRows row col plane cells =
-    let chroma = ltb 0 plane in
-    let s : Superblock = record { subx = chroma && eqb subX 1; suby = chroma && eqb subY 1; cols = miCols; rows = miRows; row = row; col = col } in
-    setting s chroma sharpness depth cells
-
--- 11 at cell k
-abbrev pub badCell : (cells : List ℕ) (k : ℕ) → Bool
-badCell cells k = badWord (getD cells k 0)
 
 -- refusals 1 to 10, which numbers decide, and what follows them
 abbrev pub numbersRefused : {A : Type 0} → (sharpness depth subX subY miCols miRows row col plane pass cellsLent : ℕ) → Outcome A → Outcome A

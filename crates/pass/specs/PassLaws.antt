@@ -22,7 +22,9 @@ use Rattle.window.specs.SampleLaws.{samples-small}
 use Rattle.window.specs.Window.{badWindow, badSample}
 use Rattle.window.specs.WindowLaws.{Lent, lent}
 use Rattle.window.specs.declared.WindowShape.{WindowShape}
-use Rattle.pass.specs.Pass.{Setting, settingOf, badCell, superblockLoopFilter, numbersRefused, listsRefused, superblockLoopFilterCells, returnedOf}
+use Rattle.cells.specs.Cell.{badCell}
+use Rattle.decided.specs.Decided.{Setting, settingOf}
+use Rattle.pass.specs.Pass.{superblockLoopFilter, numbersRefused, listsRefused, superblockLoopFilterCells, returnedOf}
 use Rattle.pass.specs.declared.PassAnswer.{PassAnswer}
 use Rattle.pass.specs.declared.PassAnswer.the-variants.{Done, Sharpness, Depth, Subsampling, FrameSize, Row, Short, Plane, Column, Cell, Window, Sample, Level}
 

@@ -12,7 +12,7 @@ use Rattle.base.specs.Depth.{supported}
 use Rattle.edges.specs.Decision.{decision}
 use Rattle.edges.specs.DecisionLaws.{same-decision}
 use Rattle.positions.specs.PositionsLaws.{plane-vertical, plane-horizontal}
-use Rattle.positions.specs.Positions.{Placed, alongSub, edgeCount, edgeLen, planeX, planeY}
+use Rattle.positions.specs.Positions.{Placed, alongSub, cellStart, cellLen, edgeCount, edgeLen, planeX, planeY}
 use Rattle.edges.specs.declared.decision.Decision.{Decision}
 use Rattle.geometry.specs.Coordinates.{shr}
 use Rattle.geometry.specs.Frame.{cellsFrom}
@@ -30,7 +30,8 @@ use Rattle.window.specs.StencilLaws.{applied-length}
 use Rattle.window.specs.Window.{stencil, alongX, alongY, runOf}
 use Rattle.window.specs.WindowLaws.{Lent}
 use Rattle.window.specs.declared.WindowShape.{WindowShape}
-use Rattle.pass.specs.Pass.{Position, position, Setting, decisionAt, isDecided, decided, lineOf, filters, step, superblockLoopFilter}
+use Rattle.decided.specs.Decided.{Position, position, Setting, decisionAt, isDecided, decided, filters}
+use Rattle.pass.specs.Pass.{lineOf, step, superblockLoopFilter}
 
 -- what the tests leave: what the work asks for
 pub record Ready (g : WindowShape) (lent : ℕ) (t : Setting) : Type 0 where
@@ -59,13 +60,13 @@ module _ (g : WindowShape) (t : Setting) (pass : Pass) where
   stripDone edge i n samples = run (step g t pass) (select (isDecided t pass) (strip position edge i n)) samples
 
   -- the first position of cell c along an edge, and how many it has
-  abbrev pub cellStart : ℕ → ℕ
-  cellStart c = shr (8 * c) (alongSub (t .superblock) pass)
+  abbrev start : ℕ → ℕ
+  start c = cellStart (t .superblock) pass c
 
-  abbrev pub cellLen : ℕ
-  cellLen = shr 8 (alongSub (t .superblock) pass)
+  abbrev len : ℕ
+  len = cellLen (t .superblock) pass
 
-  pub len-cell : (n : ℕ) → n ≡ edgeLen (t .superblock) pass → n / 8 ≡ cellLen
+  pub len-cell : (n : ℕ) → n ≡ edgeLen (t .superblock) pass → n / 8 ≡ len
   unfolding edgeLen
   len-cell n e = rw e (by (alongSub (t .superblock) pass))
     where
@@ -73,7 +74,7 @@ module _ (g : WindowShape) (t : Setting) (pass : Pass) where
       by true = refl
       by false = refl
 
-  pub start-cell : (n c : ℕ) → n ≡ edgeLen (t .superblock) pass → c * (n / 8) ≡ cellStart c
+  pub start-cell : (n c : ℕ) → n ≡ edgeLen (t .superblock) pass → c * (n / 8) ≡ start c
   start-cell n c e = rw (len-cell n e) (by (alongSub (t .superblock) pass))
     where
       by : (sub : Bool) → c * shr 8 sub ≡ shr (8 * c) sub
@@ -82,26 +83,26 @@ module _ (g : WindowShape) (t : Setting) (pass : Pass) where
 
   -- cell c of an edge; the first c cells of an edge; the first n edges
   unfoldable pub cellDone : (edge c : ℕ) → List ℕ → List ℕ
-  cellDone edge c samples = stripDone edge (cellStart c) cellLen samples
+  cellDone edge c samples = stripDone edge (start c) len samples
 
   unfoldable pub cellsDone : (edge c : ℕ) → List ℕ → List ℕ
-  cellsDone edge c samples = stripDone edge 0 (cellStart c) samples
+  cellsDone edge c samples = stripDone edge 0 (start c) samples
 
   unfoldable pub edgesDone : (n : ℕ) → List ℕ → List ℕ
   edgesDone n samples = run (step g t pass) (select (isDecided t pass) (grid position n (edgeLen (t .superblock) pass))) samples
 
   pub cells-none : (edge : ℕ) (samples : List ℕ) → samples ≡ cellsDone edge 0 samples
   unfolding cellsDone
-  cells-none edge samples = start (alongSub (t .superblock) pass)
+  cells-none edge samples = none (alongSub (t .superblock) pass)
     where
-      start : (sub : Bool) → samples ≡ stripDone edge 0 (shr (8 * 0) sub) samples
-      start true = refl
-      start false = refl
+      none : (sub : Bool) → samples ≡ stripDone edge 0 (shr (8 * 0) sub) samples
+      none true = refl
+      none false = refl
 
   pub cells-more : (edge c : ℕ) (samples : List ℕ) → cellDone edge c (cellsDone edge c samples) ≡ cellsDone edge (c + 1) samples
   unfolding cellDone cellsDone
   cells-more edge c samples =
-      sym (run-strip-more (step g t pass) (isDecided t pass) position edge (cellStart c) cellLen samples)
+      sym (run-strip-more (step g t pass) (isDecided t pass) position edge (start c) len samples)
       ∙ ap (λ (n : ℕ). stripDone edge 0 n samples) (next (alongSub (t .superblock) pass))
     where
       next : (sub : Bool) → shr (8 * c) sub + shr 8 sub ≡ shr (8 * (c + 1)) sub
@@ -122,7 +123,7 @@ module _ (g : WindowShape) (t : Setting) (pass : Pass) where
 
   pub cells-length : (edge c : ℕ) (samples : List ℕ) → length (cellsDone edge c samples) ≡ length samples
   unfolding cellsDone
-  cells-length edge c samples = steps-length g t pass (select (isDecided t pass) (strip position edge 0 (cellStart c))) samples
+  cells-length edge c samples = steps-length g t pass (select (isDecided t pass) (strip position edge 0 (start c))) samples
 
   pub edges-length : (n : ℕ) (samples : List ℕ) → length (edgesDone n samples) ≡ length samples
   unfolding edgesDone
@@ -138,54 +139,54 @@ module _ (g : WindowShape) (t : Setting) (pass : Pass) where
       by Vertical = plane-vertical (t .superblock) edge i k
       by Horizontal = plane-horizontal (t .superblock) edge i k
 
-  module _ (edge c : ℕ) (d : Decision) (is : d ≡ decisionAt t pass (position edge (cellStart c))) where
+  module _ (edge c : ℕ) (d : Decision) (is : d ≡ decisionAt t pass (position edge (start c))) where
     abbrev x : ℕ
-    x = planeX (t .superblock) pass edge (cellStart c)
+    x = planeX (t .superblock) pass edge (start c)
 
     abbrev y : ℕ
-    y = planeY (t .superblock) pass edge (cellStart c)
+    y = planeY (t .superblock) pass edge (start c)
 
-    each : (k : ℕ) → k < cellLen → decisionAt t pass (position edge (cellStart c + k)) ≡ d
+    each : (k : ℕ) → k < len → decisionAt t pass (position edge (start c + k)) ≡ d
     each k h = same-decision (t .superblock) pass (t .chroma) (t .cells) edge c k h ∙ sym is
 
     -- the turn of a loop at position k of the cell: the step of the decision, if that is decided
-    turn : (k : ℕ) → k < cellLen → (samples : List ℕ)
-        → when (isDecided t pass (position edge (cellStart c + k))) (step g t pass (position edge (cellStart c + k))) samples
+    turn : (k : ℕ) → k < len → (samples : List ℕ)
+        → when (isDecided t pass (position edge (start c + k))) (step g t pass (position edge (start c + k))) samples
         ≡ when (d .decided) (λ (w : List ℕ). applied (stencil g pass (alongX pass x k) (alongY pass y k) (filters d) (lineOf t d)) w) samples
     unfolding isDecided step
     turn k h samples =
-        let a = along edge (cellStart c) k in
+        let a = along edge (start c) k in
         λ i. when (each k h i .decided) (λ (w : List ℕ). applied (stencil g pass (a .0 i) (a .1 i) (filters (each k h i)) (lineOf t (each k h i))) w) samples
 
-    last : (n : ℕ) (samples : List ℕ) → stripDone edge (cellStart c) (suc n) samples
-        ≡ when (isDecided t pass (position edge (cellStart c + n))) (step g t pass (position edge (cellStart c + n))) (stripDone edge (cellStart c) n samples)
-    last n samples = rw (add-one n) at (run-strip-last (step g t pass) (isDecided t pass) position edge (cellStart c) n samples)
+    last : (n : ℕ) (samples : List ℕ) → stripDone edge (start c) (suc n) samples
+        ≡ when (isDecided t pass (position edge (start c + n))) (step g t pass (position edge (start c + n))) (stripDone edge (start c) n samples)
+    last n samples = rw (add-one n) at (run-strip-last (step g t pass) (isDecided t pass) position edge (start c) n samples)
 
     -- a run does them all
-    pub cell-filtered : d .decided ≡ true → 0 < d .level → (samples : List ℕ) → inTurn (runOf g pass x y (lineOf t d)) cellLen samples ≡ cellDone edge c samples
+    pub cell-filtered : d .decided ≡ true → 0 < d .level → (samples : List ℕ) → inTurn (runOf g pass x y (lineOf t d)) len samples ≡ cellDone edge c samples
     unfolding cellDone inTurn
-    cell-filtered on level samples = from cellLen (omega arith)
+    cell-filtered on level samples = from len (omega arith)
       where
         does : (k : ℕ) (w : List ℕ) → applied (runOf g pass x y (lineOf t d) k) w
             ≡ when (d .decided) (λ (u : List ℕ). applied (stencil g pass (alongX pass x k) (alongY pass y k) (filters d) (lineOf t d)) u) w
         does k w = λ i. when (sym on i) (λ (u : List ℕ). applied (stencil g pass (alongX pass x k) (alongY pass y k) (sym (lt-ltb 0 (d .level) level) i) (lineOf t d)) u) w
 
-        from : (n : ℕ) → n ≤ cellLen → inTurn (runOf g pass x y (lineOf t d)) n samples ≡ stripDone edge (cellStart c) n samples
+        from : (n : ℕ) → n ≤ len → inTurn (runOf g pass x y (lineOf t d)) n samples ≡ stripDone edge (start c) n samples
         from zero h = refl
         from (suc n) h =
             ap (λ (w : List ℕ). applied (runOf g pass x y (lineOf t d) n) w) (from n (omega arith))
-            ∙ does n (stripDone edge (cellStart c) n samples) ∙ sym (turn n (omega arith) (stripDone edge (cellStart c) n samples)) ∙ sym (last n samples)
+            ∙ does n (stripDone edge (start c) n samples) ∙ sym (turn n (omega arith) (stripDone edge (start c) n samples)) ∙ sym (last n samples)
 
     -- as the code calls it
-    pub cell-run : d .decided ≡ true → 0 < d .level → (x′ y′ n : ℕ) (st : FilterStrength) → x′ ≡ x → y′ ≡ y → n ≡ cellLen → st ≡ strengthOf (d .level) (t .sharpness)
+    pub cell-run : d .decided ≡ true → 0 < d .level → (x′ y′ n : ℕ) (st : FilterStrength) → x′ ≡ x → y′ ≡ y → n ≡ len → st ≡ strengthOf (d .level) (t .sharpness)
         → (samples result : List ℕ) → result ≡ inTurn (runOf g pass x′ y′ (sampleFiltering (t .depth) (d .size) (st .limit) (st .blimit) (st .thresh))) n samples → result ≡ cellDone edge c samples
     unfolding lineOf
     cell-run on level x′ y′ n st ex ey en es samples result h =
         h ∙ (λ i. inTurn (runOf g pass (ex i) (ey i) (sampleFiltering (t .depth) (d .size) (es i .limit) (es i .blimit) (es i .thresh))) (en i) samples) ∙ cell-filtered on level samples
 
     -- what is not decided, or has level 0, is left
-    idle : (d .decided && filters d) ≡ false → (k : ℕ) → k < cellLen → (samples : List ℕ)
-        → when (isDecided t pass (position edge (cellStart c + k))) (step g t pass (position edge (cellStart c + k))) samples ≡ samples
+    idle : (d .decided && filters d) ≡ false → (k : ℕ) → k < len → (samples : List ℕ)
+        → when (isDecided t pass (position edge (start c + k))) (step g t pass (position edge (start c + k))) samples ≡ samples
     idle e k h samples = turn k h samples ∙ cases (d .decided) e
       where
         cases : (b : Bool) → (b && filters d) ≡ false → when b (λ (w : List ℕ). applied (stencil g pass (alongX pass x k) (alongY pass y k) (filters d) (lineOf t d)) w) samples ≡ samples
@@ -194,9 +195,9 @@ module _ (g : WindowShape) (t : Setting) (pass : Pass) where
 
     pub cell-idle : (d .decided && filters d) ≡ false → (samples : List ℕ) → samples ≡ cellDone edge c samples
     unfolding cellDone
-    cell-idle e samples = sym (from cellLen (omega arith))
+    cell-idle e samples = sym (from len (omega arith))
       where
-        from : (n : ℕ) → n ≤ cellLen → stripDone edge (cellStart c) n samples ≡ samples
+        from : (n : ℕ) → n ≤ len → stripDone edge (start c) n samples ≡ samples
         from zero h = refl
         from (suc n) h =
-            last n samples ∙ idle e n (omega arith) (stripDone edge (cellStart c) n samples) ∙ from n (omega arith)
+            last n samples ∙ idle e n (omega arith) (stripDone edge (start c) n samples) ∙ from n (omega arith)

@@ -3,7 +3,7 @@ ghost use mathlib.Core.Path.{_≡_};
 ghost use Prim.Native.Nat.{_<_};
 ghost use lib.ListN.{length};
 ghost use Rattle.positions.specs.Positions.{edgeCount};
-ghost use Rattle.pass.specs.Pass.{setting};
+ghost use Rattle.decided.specs.Decided.{setting};
 ghost use Rattle.pass.specs.WorkLaws.{Ready, cellDone, cellsDone};
 use edges::decision::decide_unchecked;
 use geometry::Pass;

@@ -5,15 +5,16 @@ ghost use mathlib.Core.List.{List};
 ghost use Prim.Native.Nat.{ℕ, _^_, _≤_};
 ghost use lib.ListN.{length};
 ghost use Rattle.base.specs.Depth.{supported};
-ghost use Rattle.base.specs.First.{first, found};
 ghost use Rattle.base.specs.Outcome.{Outcome};
 ghost use Rattle.positions.specs.Positions.{Placed};
 ghost use Rattle.geometry.specs.Frame.{cellsFrom};
-ghost use Rattle.pass.specs.Pass.{setting, badCell, numbersRefused, listsRefused};
+ghost use Rattle.decided.specs.Decided.{setting};
+ghost use Rattle.pass.specs.Pass.{numbersRefused, listsRefused};
 ghost use Rattle.pass.specs.PassLaws.{afterwards};
 use crate::PassAnswer;
 use base::is_supported;
-use cells::bad_word;
+use cells::any_bad_word_unchecked;
+use cells::first_bad_word_unchecked;
 use edges::decision::first_levelless_unchecked;
 use geometry::Pass;
 use geometry::Superblock;
@@ -26,30 +27,6 @@ use window::WindowShape;
 use window::any_bad_sample_unchecked;
 use window::bad_window;
 use window::first_bad_sample_unchecked;
-
-fn any_bad_cell(cells: &[u32], count: usize) -> bool
-    requires { ⌜ count ≤ length (now cells) ⌝ }
-    ensures { λ r. ⌜ r ≡ found (badCell (now (cells .entry))) count ⌝ }
-{
-    let mut any = false;
-    for k in 0..count {
-        any = any | bad_word(cells[k]);
-    }
-    any
-}
-
-// The first such cell, or the count.
-fn first_bad_cell(cells: &[u32], count: usize) -> usize
-    requires { ⌜ count ≤ length (now cells) ⌝ }
-    ensures { λ r. ⌜ r ≡ first (badCell (now (cells .entry))) count ⌝ }
-{
-    for k in 0..count {
-        if bad_word(cells[k]) {
-            return k;
-        }
-    }
-    count
-}
 
 // 2 to the depth.
 fn sample_bound(depth: u8) -> u16
@@ -117,8 +94,8 @@ pub(crate) fn list_faults(
     ensures { λ r. ⌜ ((after : Outcome (List ℕ)) → listsRefused g (setting s chroma sharpness depth (now (cells .entry))) pass (now (samples .entry)) after ≡ afterwards r after) ⌝ }
 {
     let count = cell_count_unchecked(s.row, s.cols, s.rows);
-    if any_bad_cell(cells, count) {
-        return PassAnswer::Cell(first_bad_cell(cells, count));
+    if any_bad_word_unchecked(cells, count) {
+        return PassAnswer::Cell(first_bad_word_unchecked(cells, count));
     }
     if bad_window(g, samples.len()) {
         return PassAnswer::Window;

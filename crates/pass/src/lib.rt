@@ -7,7 +7,8 @@ ghost use Rattle.base.specs.Depth.{supported};
 ghost use Rattle.base.specs.Outcome.{accepted, Answers};
 ghost use Rattle.positions.specs.Positions.{Placed};
 ghost use Rattle.geometry.specs.Frame.{cellsFrom};
-ghost use Rattle.pass.specs.Pass.{setting, superblockLoopFilter, listsRefused, superblockLoopFilterCells, returnedOf};
+ghost use Rattle.decided.specs.Decided.{setting};
+ghost use Rattle.pass.specs.Pass.{superblockLoopFilter, listsRefused, superblockLoopFilterCells, returnedOf};
 ghost use Rattle.pass.specs.WorkLaws.{Ready};
 
 mod edge;

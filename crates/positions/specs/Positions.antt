@@ -40,6 +40,13 @@ edgeCount s pass = shr 16 (sub s pass)
 unfoldable pub edgeLen : Superblock → Pass → ℕ
 edgeLen s pass = shr 64 (alongSub s pass)
 
+-- an edge has 8 cells: the first position of cell c, and how many it has
+abbrev pub cellStart : Superblock → Pass → (c : ℕ) → ℕ
+cellStart s pass c = shr (8 * c) (alongSub s pass)
+
+abbrev pub cellLen : Superblock → Pass → ℕ
+cellLen s pass = shr 8 (alongSub s pass)
+
 -- step 1: x and y, in luma samples
 unfoldable pub lumaX : Superblock → Pass → (edge i : ℕ) → ℕ
 lumaX s Vertical edge i = s .col * 8 + edge * shl 4 (s .subx)

@@ -29,7 +29,8 @@ use Rattle.geometry.specs.declared.Pass.{Pass}
 use Rattle.levels.specs.Levels.{levelAt}
 use Rattle.order.specs.Grid.{grid, grid-mem, select-mem, select-passes, select-same}
 use Rattle.order.specs.Order.{run, run-same}
-use Rattle.pass.specs.Pass.{Position, position, Setting, setting, decisionAt, isDecided, decided, lineOf, step, superblockLoopFilter, settingOf, superblockLoopFilterCells}
+use Rattle.decided.specs.Decided.{Position, position, Setting, setting, decisionAt, isDecided, decided, settingOf}
+use Rattle.pass.specs.Pass.{lineOf, step, superblockLoopFilter, superblockLoopFilterCells}
 use Rattle.pass.specs.PassLaws.{ran}
 use Rattle.row.specs.Row.{ModeInfo, row as rowOf}
 use Rattle.row.specs.RowStandard.{Made, Standard, row-made, row-standard}

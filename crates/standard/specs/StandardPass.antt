@@ -19,7 +19,7 @@ use Rattle.levels.specs.Levels.{levelAt}
 use Rattle.line.specs.SampleFiltering.{sampleFiltering}
 use Rattle.order.specs.Grid.{select, grid}
 use Rattle.order.specs.Order.{run}
-use Rattle.pass.specs.Pass.{Position, position}
+use Rattle.decided.specs.Decided.{Position, position}
 use Rattle.row.specs.Row.{ModeInfo}
 use Rattle.strength.specs.Strength.{modeType, strengthOf}
 use Rattle.window.specs.Stencil.{applied}

@@ -4,7 +4,7 @@ use Prim.Native.Nat.{_-_, _≤_}
 use native.Mathlib.Omega.{arith}
 use lib.ListN.{length}
 use Rattle.positions.specs.Positions.{edgeCount}
-use Rattle.pass.specs.Pass.{Setting, setting}
+use Rattle.decided.specs.Decided.{Setting, setting}
 use Rattle.pass.specs.WorkLaws.{still-ready, cellsDone, edgesDone, edges-none, edges-more, edges-all, edges-length}
 use Rattle.pass.proofs.superblock_loop_filter_unchecked.Statement.{statement}
 use Rattle.pass.proofs.superblock_loop_filter_unchecked.Tie as tie

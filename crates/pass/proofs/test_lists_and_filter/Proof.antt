@@ -3,7 +3,8 @@ use denote.Ref.{now}
 use mathlib.Core.List.{[]}
 use mathlib.Core.Path.{sym, ap, _∙_}
 use Rattle.base.specs.Outcome.{accepted}
-use Rattle.pass.specs.Pass.{Setting, setting, superblockLoopFilter}
+use Rattle.decided.specs.Decided.{Setting, setting}
+use Rattle.pass.specs.Pass.{superblockLoopFilter}
 use Rattle.pass.specs.PassLaws.{lists-passed, done-answer}
 use Rattle.pass.proofs.Refusals.{refused-answer, passed-on}
 use Rattle.pass.proofs.test_lists_and_filter.Statement.{statement}

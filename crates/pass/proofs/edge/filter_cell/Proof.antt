@@ -7,10 +7,10 @@ use borrow.Author.Tests.{ltb-true}
 use Rattle.edges.specs.Decision.{decision}
 use Rattle.edges.specs.DecisionLaws.{decision-level}
 use Rattle.positions.specs.PositionsLaws.{cell-first, edge-count-small, edge-len-small}
-use Rattle.positions.specs.Positions.{planeX, planeY}
+use Rattle.positions.specs.Positions.{cellStart, cellLen, planeX, planeY}
 use Rattle.window.specs.WindowLaws.{both}
-use Rattle.pass.specs.Pass.{Setting, setting, position, decisionAt}
-use Rattle.pass.specs.WorkLaws.{cellStart, cellLen, len-cell, start-cell, cell-run, cell-idle}
+use Rattle.decided.specs.Decided.{Setting, setting, position, decisionAt}
+use Rattle.pass.specs.WorkLaws.{len-cell, start-cell, cell-run, cell-idle}
 use Rattle.pass.proofs.edge.filter_cell.Statement.{statement}
 use Rattle.pass.proofs.edge.filter_cell.Tie as tie
 
@@ -19,10 +19,10 @@ abbrev given : tie.Start → Setting
 given c = setting (c .args .s) (c .args .chroma) (c .args .sharpness) (c .args .depth) (c .args .cells .now)
 
 -- the cell's first position, and how many it has
-starts : (c : tie.After-edge-len) → c .before .before .before .args .c * (c .edge-len .result / 8) ≡ cellStart (c .before .before .before .args .g) (given (c .before .before .before)) (c .before .before .before .args .pass) (c .before .before .before .args .c)
+starts : (c : tie.After-edge-len) → c .before .before .before .args .c * (c .edge-len .result / 8) ≡ cellStart (c .before .before .before .args .s) (c .before .before .before .args .pass) (c .before .before .before .args .c)
 starts c = start-cell (c .before .before .before .args .g) (given (c .before .before .before)) (c .before .before .before .args .pass) (c .edge-len .result) (c .before .before .before .args .c) (c .edge-len .ensures .0)
 
-lasts : (c : tie.After-edge-len) → c .edge-len .result / 8 ≡ cellLen (c .before .before .before .args .g) (given (c .before .before .before)) (c .before .before .before .args .pass)
+lasts : (c : tie.After-edge-len) → c .edge-len .result / 8 ≡ cellLen (c .before .before .before .args .s) (c .before .before .before .args .pass)
 lasts c = len-cell (c .before .before .before .args .g) (given (c .before .before .before)) (c .before .before .before .args .pass) (c .edge-len .result) (c .edge-len .ensures .0)
 
 -- it is on the grid
@@ -36,7 +36,7 @@ small c =
     (omega (arith, edge-count-small s pass, start .pre .1), rw (starts c) (omega arith))
 
 -- what was decided
-is : (c : tie.After-decide-unchecked) → c .decide-unchecked .result ≡ decisionAt (given (c .before .before .before .before)) (c .before .before .before .before .args .pass) (position (c .before .before .before .before .args .edge) (cellStart (c .before .before .before .before .args .g) (given (c .before .before .before .before)) (c .before .before .before .before .args .pass) (c .before .before .before .before .args .c)))
+is : (c : tie.After-decide-unchecked) → c .decide-unchecked .result ≡ decisionAt (given (c .before .before .before .before)) (c .before .before .before .before .args .pass) (position (c .before .before .before .before .args .edge) (cellStart (c .before .before .before .before .args .s) (c .before .before .before .before .args .pass) (c .before .before .before .before .args .c)))
 is c =
     let t = given (c .before .before .before .before) in
     c .decide-unchecked .ensures

@@ -3,7 +3,7 @@ use mathlib.Core.Path.{_≡_, ap, _∙_}
 use Prim.Native.Nat.{_-_, _≤_}
 use native.Mathlib.Omega.{arith}
 use lib.ListN.{length}
-use Rattle.pass.specs.Pass.{Setting, setting}
+use Rattle.decided.specs.Decided.{Setting, setting}
 use Rattle.pass.specs.WorkLaws.{still-ready, cellDone, cellsDone, cells-none, cells-more, cells-length}
 use Rattle.pass.proofs.edge.filter_edge.Statement.{statement}
 use Rattle.pass.proofs.edge.filter_edge.Tie as tie

@@ -9,7 +9,7 @@ use Rattle.edges.specs.Decision.{levelless}
 use Rattle.geometry.specs.Frame.{cellsFrom}
 use Rattle.window.specs.Window.{badWindow, badSample}
 use Rattle.window.specs.WindowLaws.{Lent, lent}
-use Rattle.pass.specs.Pass.{badCell}
+use Rattle.cells.specs.Cell.{badCell}
 use Rattle.pass.proofs.faults.list_faults.Statement.{statement}
 use Rattle.pass.proofs.faults.list_faults.Tie as tie
 
@@ -17,11 +17,11 @@ abbrev count : tie.Start → ℕ
 count s = cellsFrom (s .args .s .row) (s .args .s .cols) (s .args .s .rows)
 
 -- where a call of a test has returned, the start of the call, and what it tells
-abbrev at1 : tie.After-any-bad-cell → tie.Start
+abbrev at1 : tie.After-any-bad-word-unchecked → tie.Start
 at1 c = c .before .before .before .before
 
-cells : (c : tie.After-any-bad-cell) → c .any-bad-cell .result ≡ found (badCell (at1 c .args .cells .now)) (count (at1 c))
-cells c = rw (c .before .cell-count-unchecked .ensures) at (c .any-bad-cell .ensures)
+cells : (c : tie.After-any-bad-word-unchecked) → c .any-bad-word-unchecked .result ≡ found (badCell (at1 c .args .cells .now)) (count (at1 c))
+cells c = rw (c .before .cell-count-unchecked .ensures) at (c .any-bad-word-unchecked .ensures)
 
 abbrev at2 : tie.After-bad-window → tie.Start
 at2 c = at1 (c .before .before)
@@ -42,7 +42,7 @@ at4 c = at3 (c .before .before .before)
 returns : tie.Need-returns
 returns c =
     let hit = sym (cells (c .before .before)) ∙ c .before .if1 .taken in
-    let place = rw (c .before .before .before .cell-count-unchecked .ensures) at (c .first-bad-cell .ensures) in
+    let place = rw (c .before .before .before .cell-count-unchecked .ensures) at (c .first-bad-word-unchecked .ensures) in
     λ after. rw (hit, place)
 
 returns-2 : tie.Need-returns-2
