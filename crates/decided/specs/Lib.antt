@@ -1,1 +1,3 @@
 pub mod Decided
+pub mod Runs
+pub mod RunsLaws

@@ -1,1 +1,74 @@
-// The decided positions of a pass, and the runs that they join into.
+// The runs of a pass: along an edge, adjacent cells that filter with equal size and level, joined to at most 16 positions.
+ghost use mathlib.Core.Path.{_≡_};
+ghost use Prim.Native.Nat.{_+_, _≤_, _<_};
+ghost use lib.ListN.{length};
+ghost use Rattle.decided.specs.Runs.{cellRun, joins, longer};
+ghost use Rattle.decided.specs.RunsLaws.{Small};
+ghost use Rattle.geometry.specs.Frame.{cellsFrom};
+ghost use Rattle.positions.specs.Positions.{Placed, edgeCount};
+use edges::decision::decide_unchecked;
+use geometry::Pass;
+use geometry::Superblock;
+use positions::along;
+
+// Positions first, first + 1, .. of an edge, count of them, all with one size and one level. Level 0 filters nothing.
+pub struct EdgeRun {
+    pub edge: usize,
+    pub first: usize,
+    pub count: usize,
+    pub size: u8,
+    pub level: u8,
+}
+
+// The positions of one cell along an edge, as a run by themselves.
+pub fn cell_run_unchecked(
+    cells: &[u32],
+    s: Superblock,
+    pass: Pass,
+    chroma: bool,
+    edge: usize,
+    c: usize,
+) -> EdgeRun
+    requires { ⌜ Placed s × (edge < edgeCount s pass) × (c < 8) × (cellsFrom (s .row) (s .cols) (s .rows) ≤ length (now cells)) ⌝ }
+    ensures { λ r. ⌜ (r ≡ cellRun s pass chroma (now (cells .entry)) edge c) × Small r ⌝ }
+{
+    let first = along(s, pass, 8 * c);
+    let d = decide_unchecked(cells, s, pass, chroma, edge, first);
+    let mut level = 0;
+    if d.decided {
+        level = d.level;
+    }
+    EdgeRun {
+        edge,
+        first,
+        count: along(s, pass, 8),
+        size: d.size,
+        level,
+    }
+}
+
+// Whether b goes on where a ends, and may be joined to it.
+pub fn joins_unchecked(a: EdgeRun, b: EdgeRun) -> bool
+    requires { ⌜ Small a × Small b ⌝ }
+    ensures { λ r. ⌜ r ≡ joins a b ⌝ }
+{
+    (a.edge == b.edge)
+        & (a.first + a.count == b.first)
+        & (a.size == b.size)
+        & (a.level == b.level)
+        & (a.count + b.count <= 16)
+}
+
+// The run a with so many positions more.
+pub fn longer_unchecked(a: EdgeRun, count: usize) -> EdgeRun
+    requires { ⌜ Small a × (a .count + count ≤ 16) ⌝ }
+    ensures { λ r. ⌜ (r ≡ longer a count) × Small r ⌝ }
+{
+    EdgeRun {
+        edge: a.edge,
+        first: a.first,
+        count: a.count + count,
+        size: a.size,
+        level: a.level,
+    }
+}

@@ -1,0 +1,24 @@
+-- Text as lists of ASCII codes, and a list with text written over a part of it.
+-- Assumes nothing.
+use mathlib.Core.Bool.{cond}
+use mathlib.Core.List.{List, [], _∷_, _++_}
+use Prim.Native.Nat.{ℕ, zero, suc, _+_, _/_, _%_}
+use lib.Dec.{ltb}
+use lib.ListN.{set}
+
+-- the digit of a number below 10
+abbrev pub digit : ℕ → ℕ
+digit n = 48 + n
+
+-- n in decimal, the most significant digit first; each turn uses up one of the first argument, and n of them are always enough
+unfoldable pub decimalIn : (turns n : ℕ) → List ℕ
+decimalIn zero n = digit (n % 10) ∷ []
+decimalIn (suc turns) n = cond (ltb n 10) (digit n ∷ []) (decimalIn turns (n / 10) ++ digit (n % 10) ∷ [])
+
+unfoldable pub decimal : ℕ → List ℕ
+decimal n = decimalIn n n
+
+-- the list with text in place of what it has from place at on; what does not fit is dropped
+unfoldable pub written : (at : ℕ) (text : List ℕ) → List ℕ → List ℕ
+written at [] out = out
+written at (b ∷ text) out = written (suc at) text (set out at b)
