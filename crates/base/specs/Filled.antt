@@ -1,19 +1,24 @@
 -- A list some of whose entries are given by their places, as a loop that stores them in turn leaves it.
 -- Assumes nothing.
 use mathlib.Core.Path.{_≡_, refl, sym, _∙_}
-use mathlib.Core.List.{List, [], _∷_}
+use mathlib.Core.List.{List, [], _∷_, _++_}
 use mathlib.Core.Logic.{_⊎_, inl, inr, ⊎-elim}
 use Prim.Native.Nat.{ℕ, zero, suc, _+_, _≤_, _<_}
-use native.Mathlib.Nat.{add-zero, add-suc, add-assoc, eq-or-lt-of-le, le-of-suc-le-suc, not-suc-le-zero}
+use native.Mathlib.Nat.{zero-add, add-zero, add-suc, add-assoc, eq-or-lt-of-le, le-of-suc-le-suc, not-suc-le-zero}
 use native.Mathlib.Numerals.{add-one}
 use native.Mathlib.Omega.{arith}
-use lib.ListN.{length, getD, set, length-set}
-use lib.Seq.{getD-set-same, getD-set-other}
+use lib.ListN.{length, getD, set, take, length-set}
+use lib.Seq.{getD-set-same, getD-set-other, take-suc-set}
 
 -- the list with n entries from place s on replaced by f s, f (s + 1), ..
 unfoldable pub filled : (ℕ → ℕ) → ℕ → ℕ → List ℕ → List ℕ
 filled f s zero l = l
 filled f s (suc n) l = set (filled f s n l) (s + n) (f (s + n))
+
+-- the n entries f 0, f 1, ..
+unfoldable pub table : (ℕ → ℕ) → ℕ → List ℕ
+table f zero = []
+table f (suc n) = table f n ++ f n ∷ []
 
 pub filled-none : (f : ℕ → ℕ) (s : ℕ) (l : List ℕ) → l ≡ filled f s 0 l
 unfolding filled
@@ -90,3 +95,10 @@ filled-agree f g s zero l m k h e a = a
 filled-agree f g s (suc n) l m k h e a =
     rw (h (s + n))
     (set-agree (filled f s n l) (filled g s n m) (s + n) (g (s + n)) k (length-filled f s n l ∙ e ∙ sym (length-filled g s n m)) (filled-agree f g s n l m k h e a))
+
+-- a list whose first entries are filled starts with the table
+pub take-filled : (f : ℕ → ℕ) (n : ℕ) (l : List ℕ) → n ≤ length l → take n (filled f 0 n l) ≡ table f n
+unfolding filled table
+take-filled f zero l h = refl
+take-filled f (suc n) l h =
+    rw (zero-add n, take-suc-set (filled f 0 n l) n (f n) (omega (arith, length-filled f 0 n l)), take-filled f n l (omega arith))

@@ -2,9 +2,10 @@
 -- Assumes nothing.
 use mathlib.Core.Bool.{Bool, cond, not, _&&_, _||_}
 use mathlib.Core.List.{List}
-use Prim.Native.Nat.{ℕ, _+_, _*_, _/_, _%_, _^_, _<_}
+use Prim.Native.Nat.{ℕ, zero, suc, _+_, _*_, _/_, _%_, _^_, _<_}
 use lib.Dec.{eqb}
 use lib.ListN.{getD}
+use Rattle.base.specs.Filled.{table}
 use Rattle.cells.specs.declared.LfCell.{LfCell}
 
 abbrev pub bit : Bool → ℕ
@@ -59,3 +60,12 @@ pub record Fields (c : LfCell) : Type 0 where
   pub tx : c .tx < 4
   pub uvtx : c .uvtx < 4
   pub level : c .level < 64
+
+-- the number that n bytes from a place on give, the most significant first
+abbrev pub bytesAt : (bytes : List ℕ) (at n : ℕ) → ℕ
+bytesAt bytes at zero = 0
+bytesAt bytes at (suc n) = bytesAt bytes at n * 256 + getD bytes (at + n) 0
+
+-- the words that bytes from a place on give, four bytes each
+unfoldable pub wordsAt : (bytes : List ℕ) (at count : ℕ) → List ℕ
+wordsAt bytes at count = table (λ k. bytesAt bytes (at + 4 * k) 4) count

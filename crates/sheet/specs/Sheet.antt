@@ -1,0 +1,132 @@
+-- Document 01's run sheet: what it holds, its refusals, and the text that is printed for it.
+-- Assumes nothing.
+use mathlib.Core.Bool.{Bool, cond, not, _||_}
+use mathlib.Core.List.{List, [], _∷_, _++_}
+use Prim.Native.Nat.{ℕ, _+_, _-_, _*_, _/_, _%_, _^_}
+use lib.Dec.{eqb, ltb}
+use lib.ListN.{length}
+use Rattle.base.specs.First.{refuseFirst}
+use Rattle.base.specs.Outcome.{Outcome, accepted, refused, refuse}
+use Rattle.cells.specs.Cell.{badCell, bytesAt, wordsAt}
+use Rattle.decided.specs.Decided.{Setting, settingOf}
+use Rattle.decided.specs.Runs.{runs}
+use Rattle.decided.specs.declared.EdgeRun.{EdgeRun}
+use Rattle.edges.specs.Decision.{levelless}
+use Rattle.geometry.specs.Frame.{cellsFrom}
+use Rattle.pass.specs.Pass.{numbersRefused}
+use Rattle.positions.specs.Positions.{passOf, edgeCount}
+use Rattle.text.specs.Text.{decimal}
+use Rattle.sheet.specs.declared.header.SheetHeader.{SheetHeader}
+
+-- ---- the sheet
+
+-- depth codes 0, 1, 2 are depths 8, 10, 12; code 3 is none
+abbrev pub depthOf : (code : ℕ) → ℕ
+depthOf code = cond (ltb code 3) (8 + 2 * code) 0
+
+-- 64 bits, from the most significant on: mi_cols 14, mi_rows 14, x and y subsampling 1 each, sharpness 3, depth code 2, plane 2, pass 1,
+-- row base over 8 in 10, column over 8 in 10, spare 6
+unfoldable pub headerOf : (bytes : List ℕ) → SheetHeader
+headerOf bytes =
+    let bits = bytesAt bytes 0 8 in
+    record {
+      cols = bits / 2 ^ 50 % 2 ^ 14;
+      rows = bits / 2 ^ 36 % 2 ^ 14;
+      subx = bits / 2 ^ 35 % 2;
+      suby = bits / 2 ^ 34 % 2;
+      sharpness = bits / 2 ^ 31 % 2 ^ 3;
+      depth = depthOf (bits / 2 ^ 29 % 2 ^ 2);
+      plane = bits / 2 ^ 27 % 2 ^ 2;
+      pass = bits / 2 ^ 26 % 2;
+      row = 8 * (bits / 2 ^ 16 % 2 ^ 10);
+      col = 8 * (bits / 2 ^ 6 % 2 ^ 10);
+      spare = bits % 2 ^ 6;
+    }
+
+-- 17: spare bits set, or mi_cols above 1,024
+unfoldable pub badHeader : SheetHeader → Bool
+badHeader h = not (eqb (h .spare) 0) || ltb 1024 (h .cols)
+
+-- the cells of the superblock row, from the words behind the header
+abbrev pub cellsOf : (bytes : List ℕ) → List ℕ
+cellsOf bytes =
+    let h = headerOf bytes in
+    wordsAt bytes 8 (cellsFrom (h .row) (h .cols) (h .rows))
+
+abbrev pub sheetSetting : (bytes : List ℕ) → Setting
+sheetSetting bytes =
+    let h = headerOf bytes in
+    settingOf (h .sharpness) (h .depth) (h .subx) (h .suby) (h .cols) (h .rows) (h .row) (h .col) (h .plane) (cellsOf bytes)
+
+-- refusals 11 and 14, which the cells decide, and what follows them
+abbrev pub cellsRefused : {A : Type 0} → (bytes : List ℕ) → Outcome A → Outcome A
+cellsRefused bytes after =
+    let h = headerOf bytes in
+    let t = sheetSetting bytes in
+    refuseFirst (badCell (t .cells)) (cellsFrom (h .row) (h .cols) (h .rows)) 11
+    (refuseFirst (levelless (t .superblock) (passOf (h .pass)) (t .chroma) (t .cells)) (64 * edgeCount (t .superblock) (passOf (h .pass))) 14
+    after)
+
+-- the runs of a sheet: under 8 bytes it gets 7 before any other test, then 17 is tested, then the rest in number order
+unfoldable pub sheetRuns : (bytes : List ℕ) → Outcome (List EdgeRun)
+sheetRuns bytes =
+    let h = headerOf bytes in
+    let t = sheetSetting bytes in
+    refuse (ltb (length bytes) 8) 7 0
+    (refuse (badHeader h) 17 0
+    (numbersRefused (h .sharpness) (h .depth) (h .subx) (h .suby) (h .cols) (h .rows) (h .row) (h .col) (h .plane) (h .pass) ((length bytes - 8) / 4)
+    (cellsRefused bytes
+    (accepted (runs (t .superblock) (passOf (h .pass)) (t .chroma) (t .cells))))))
+
+-- ---- its text, as ASCII codes
+
+abbrev pub space : ℕ
+space = 32
+
+abbrev pub newline : ℕ
+newline = 10
+
+-- "pass ", " plane ", " row ", " col "
+abbrev pub passWord : List ℕ
+passWord = 112 ∷ 97 ∷ 115 ∷ 115 ∷ 32 ∷ []
+
+abbrev pub planeWord : List ℕ
+planeWord = 32 ∷ 112 ∷ 108 ∷ 97 ∷ 110 ∷ 101 ∷ 32 ∷ []
+
+abbrev pub rowWord : List ℕ
+rowWord = 32 ∷ 114 ∷ 111 ∷ 119 ∷ 32 ∷ []
+
+abbrev pub colWord : List ℕ
+colWord = 32 ∷ 99 ∷ 111 ∷ 108 ∷ 32 ∷ []
+
+-- "refused ", " place "
+abbrev pub refusedWord : List ℕ
+refusedWord = 114 ∷ 101 ∷ 102 ∷ 117 ∷ 115 ∷ 101 ∷ 100 ∷ 32 ∷ []
+
+abbrev pub placeWord : List ℕ
+placeWord = 32 ∷ 112 ∷ 108 ∷ 97 ∷ 99 ∷ 101 ∷ 32 ∷ []
+
+-- pass, plane, row base, column in 8-sample units
+unfoldable pub firstLine : SheetHeader → List ℕ
+firstLine h =
+    passWord ++ decimal (h .pass) ++ planeWord ++ decimal (h .plane) ++ rowWord ++ decimal (h .row) ++ colWord ++ decimal (h .col) ++ newline ∷ []
+
+-- edge, first i, positions, size, level
+unfoldable pub runLine : EdgeRun → List ℕ
+runLine a =
+    decimal (a .edge) ++ space ∷ decimal (a .first) ++ space ∷ decimal (a .count) ++ space ∷ decimal (a .size) ++ space ∷ decimal (a .level) ++ newline ∷ []
+
+unfoldable pub runLines : List EdgeRun → List ℕ
+runLines [] = []
+runLines (a ∷ l) = runLine a ++ runLines l
+
+unfoldable pub refusalLine : (number place : ℕ) → List ℕ
+refusalLine number place = refusedWord ++ decimal number ++ placeWord ++ decimal place ++ newline ∷ []
+
+abbrev pub printed : SheetHeader → Outcome (List EdgeRun) → List ℕ
+printed h (accepted l) = firstLine h ++ runLines l
+printed h (refused number place) = refusalLine number place
+
+-- THE RUN SHEET: the text that is printed for the bytes of a sheet
+unfoldable pub runSheet : (bytes : List ℕ) → List ℕ
+runSheet bytes = printed (headerOf bytes) (sheetRuns bytes)
