@@ -37,7 +37,7 @@ fn sample_bound(depth: u8) -> u16
 }
 
 // Refusals 1 to 10, of a row with so many cells lent.
-pub(crate) fn number_faults(
+pub fn number_faults(
     sharpness: u8,
     depth: u8,
     sub_x: u8,

@@ -12,7 +12,7 @@ ghost use Rattle.pass.specs.Pass.{superblockLoopFilter, listsRefused, su
 ghost use Rattle.pass.specs.WorkLaws.{Ready};
 
 mod edge;
-mod faults;
+pub mod faults;
 
 use edge::filter_edge;
 use faults::list_faults;
@@ -38,6 +38,39 @@ pub enum PassAnswer {
     Window,
     Sample(usize),
     Level(usize),
+}
+
+// Document 01's number and place of an answer, 0 and 0 where the pass was run.
+
+pub fn number_of(answer: PassAnswer) -> u32
+    ensures { λ r. ⌜ r ≡ returnedOf answer .number ⌝ }
+{
+    match answer {
+        PassAnswer::Done => 0,
+        PassAnswer::Sharpness => 1,
+        PassAnswer::Depth => 2,
+        PassAnswer::Subsampling => 3,
+        PassAnswer::FrameSize => 4,
+        PassAnswer::Row => 5,
+        PassAnswer::Short => 7,
+        PassAnswer::Plane => 9,
+        PassAnswer::Column => 10,
+        PassAnswer::Cell(_) => 11,
+        PassAnswer::Window => 12,
+        PassAnswer::Sample(_) => 13,
+        PassAnswer::Level(_) => 14,
+    }
+}
+
+pub fn place_of(answer: PassAnswer) -> usize
+    ensures { λ r. ⌜ r ≡ returnedOf answer .place ⌝ }
+{
+    match answer {
+        PassAnswer::Cell(k) => k,
+        PassAnswer::Sample(k) => k,
+        PassAnswer::Level(k) => k,
+        _ => 0,
+    }
 }
 
 // The work without the tests, for a caller that has made them. The superblock has the subsampling that holds in the plane.
