@@ -1,3 +1,4 @@
 pub mod Decided
 pub mod Runs
+pub mod JoinLaws
 pub mod RunsLaws

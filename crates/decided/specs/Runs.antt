@@ -6,6 +6,7 @@ use mathlib.Core.List.{List, [], _∷_, _++_}
 use Prim.Native.Nat.{ℕ, _+_}
 use lib.Dec.{eqb, leb, ltb}
 use Rattle.edges.specs.Decision.{decision}
+use Rattle.edges.specs.declared.decision.Decision.{Decision}
 use Rattle.geometry.specs.declared.Pass.{Pass}
 use Rattle.geometry.specs.declared.Superblock.{Superblock}
 use Rattle.order.specs.Grid.{select, strip, grid}
@@ -13,11 +14,15 @@ use Rattle.positions.specs.Positions.{cellStart, cellLen, edgeCount}
 use Rattle.decided.specs.Decided.{Position, position}
 use Rattle.decided.specs.declared.EdgeRun.{EdgeRun}
 
--- the positions of cell c along an edge, as a run by themselves; level 0 where they are not decided
+-- the level that a decision filters with: 0 where nothing is decided
+abbrev pub levelOf : Decision → ℕ
+levelOf d = cond (d .decided) (d .level) 0
+
+-- the positions of cell c along an edge, as a run by themselves
 unfoldable pub cellRun : Superblock → Pass → (chroma : Bool) (cells : List ℕ) (edge c : ℕ) → EdgeRun
 cellRun s pass chroma cells edge c =
     let d = decision s pass chroma cells edge (cellStart s pass c) in
-    record { edge = edge; first = cellStart s pass c; count = cellLen s pass; size = d .size; level = cond (d .decided) (d .level) 0 }
+    record { edge = edge; first = cellStart s pass c; count = cellLen s pass; size = d .size; level = levelOf d }
 
 -- b goes on where a ends, with equal size and level, and together they have at most 16 positions
 unfoldable pub joins : EdgeRun → EdgeRun → Bool

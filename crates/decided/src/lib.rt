@@ -2,10 +2,11 @@
 ghost use mathlib.Core.Path.{_≡_};
 ghost use Prim.Native.Nat.{_+_, _≤_, _<_};
 ghost use lib.ListN.{length};
-ghost use Rattle.decided.specs.Runs.{cellRun, joins, longer};
+ghost use Rattle.decided.specs.Runs.{levelOf, cellRun, joins, longer};
 ghost use Rattle.decided.specs.RunsLaws.{Small};
 ghost use Rattle.geometry.specs.Frame.{cellsFrom};
 ghost use Rattle.positions.specs.Positions.{Placed, edgeCount};
+use edges::decision::Decision;
 use edges::decision::decide_unchecked;
 use geometry::Pass;
 use geometry::Superblock;
@@ -18,6 +19,13 @@ pub struct EdgeRun {
     pub count: usize,
     pub size: u8,
     pub level: u8,
+}
+
+// The level that a decision filters with: 0 where nothing is decided.
+fn level_of(d: Decision) -> u8
+    ensures { λ r. ⌜ r ≡ levelOf d ⌝ }
+{
+    if d.decided { d.level } else { 0 }
 }
 
 // The positions of one cell along an edge, as a run by themselves.
@@ -34,16 +42,12 @@ pub fn cell_run_unchecked(
 {
     let first = along(s, pass, 8 * c);
     let d = decide_unchecked(cells, s, pass, chroma, edge, first);
-    let mut level = 0;
-    if d.decided {
-        level = d.level;
-    }
     EdgeRun {
         edge,
         first,
         count: along(s, pass, 8),
         size: d.size,
-        level,
+        level: level_of(d),
     }
 }
 

@@ -1,14 +1,16 @@
 -- Lists in rising order, as the decided positions of a pass are: the pairs of a grid, first number by first number, kept where a
 -- test admits them (`select`).
 -- Assumes nothing.
-use mathlib.Core.Path.{_≡_, refl, ap}
+use mathlib.Core.Path.{_≡_, refl, ap, _∙_}
 use mathlib.Core.Logic.{_⊎_, inl, inr}
-use mathlib.Core.Bool.{Bool, true, false}
-use mathlib.Core.List.{List, [], _∷_, _++_, List·Memᴰ, List·Memᴰ·head, List·Memᴰ·tail, List·Memᴰ·append-cases, Memᴰ·append-left, Memᴰ·append-right}
-use Prim.Native.Nat.{ℕ, zero, suc, _+_, _≤_, _<_}
+use mathlib.Core.Bool.{Bool, true, false, cond, _&&_}
+use mathlib.Core.List.{List, [], _∷_, _++_, append-assoc, List·Memᴰ, List·Memᴰ·head, List·Memᴰ·tail, List·Memᴰ·append-cases, Memᴰ·append-left, Memᴰ·append-right}
+use Prim.Native.Nat.{ℕ, zero, suc, _+_, _*_, _≤_, _<_}
 use native.Mathlib.Decide.{ℕ-discrete}
+use native.Mathlib.Nat.{suc-add, suc-mul, zero-add, zero-mul}
 use native.Mathlib.Omega.{arith}
 use lib.Dec.{T}
+use lib.ListN.{length, length-append}
 use Rattle.order.specs.Order.{Before, Before·now, Before·later}
 
 -- ---- the members that a test admits
@@ -69,6 +71,38 @@ module _ {A : Type 0} where
   select-same t t′ [] h = refl
   select-same t t′ (a ∷ l) h = λ i. keep-if (h a (List·Memᴰ·head refl) i) a (select-same t t′ l (λ b m. h b (List·Memᴰ·tail m)) i)
 
+  keep-append : (b : Bool) (a : A) (l m : List A) → keep-if b a (l ++ m) ≡ keep-if b a l ++ m
+  keep-append true a l m = refl
+  keep-append false a l m = refl
+
+  pub select-append : (t : A → Bool) (l m : List A) → select t (l ++ m) ≡ select t l ++ select t m
+  select-append t [] m = refl
+  select-append t (a ∷ l) m = ap (keep-if (t a) a) (select-append t l m) ∙ keep-append (t a) a (select t l) (select t m)
+
+  -- a test that is the same for all keeps all or none
+  pub select-const : (b : Bool) (l : List A) → select (λ _. b) l ≡ cond b l []
+  select-const true [] = refl
+  select-const false [] = refl
+  select-const true (a ∷ l) = ap (λ (m : List A). a ∷ m) (select-const true l)
+  select-const false (a ∷ l) = select-const false l
+
+  -- two tests, one after the other
+  pub select-select : (t u : A → Bool) (l : List A) → select t (select u l) ≡ select (λ a. u a && t a) l
+  select-select t u [] = refl
+  select-select t u (a ∷ l) = both (u a) (select-select t u l)
+    where
+      both : (b : Bool) → select t (select u l) ≡ select (λ x. u x && t x) l → select t (keep-if b a (select u l)) ≡ keep-if (b && t a) a (select (λ x. u x && t x) l)
+      both true e = ap (keep-if (t a) a) e
+      both false e = e
+
+  pub select-length : (t : A → Bool) (l : List A) → length (select t l) ≤ length l
+  select-length t [] = omega arith
+  select-length t (a ∷ l) = kept (t a) (select-length t l)
+    where
+      kept : (b : Bool) → length (select t l) ≤ length l → length (keep-if b a (select t l)) ≤ suc (length l)
+      kept true h = omega arith
+      kept false h = omega arith
+
   -- where two members of a list in two parts can stand
   pub data Halves (x y : A) (l m : List A) : Type 0 where
     Halves·left : Before x y l → Halves x y l m
@@ -114,7 +148,7 @@ module _ {A : Type 0} (mk : ℕ → ℕ → A) where
     pub from : i₀ ≤ i
     pub to : i < i₁
 
-  strip-mem : (e i n : ℕ) {x : A} → List·Memᴰ x (strip e i n) → Cell x e (suc e) i (i + n)
+  pub strip-mem : (e i n : ℕ) {x : A} → List·Memᴰ x (strip e i n) → Cell x e (suc e) i (i + n)
   strip-mem e i (suc n) (List·Memᴰ·head d) = record { e = e; i = i; is = d; low = omega arith; high = omega arith; from = omega arith; to = omega arith }
   strip-mem e i (suc n) (List·Memᴰ·tail m) =
       let r = strip-mem e (suc i) n m in
@@ -148,6 +182,29 @@ module _ {A : Type 0} (mk : ℕ → ℕ → A) where
 
   pub mem-grid : (n k f j : ℕ) → f < n → j < k → List·Memᴰ (mk f j) (grid n k)
   mem-grid n k f j h b = mem-strips 0 n k f j (omega arith) (omega arith) b
+
+  -- a strip, and a row of strips, in two parts
+  pub strip-split : (e i n m j : ℕ) → j ≡ i + n → strip e i (n + m) ≡ strip e i n ++ strip e j m
+  strip-split e i zero m j h = let d : j ≡ i = omega arith in rw (zero-add, d)
+  strip-split e i (suc n) m j h = let ih = strip-split e (suc i) n m j (omega arith) in rw suc-add (λ x. mk e i ∷ ih x)
+
+  pub strips-split : (e n m k j : ℕ) → j ≡ e + n → strips e (n + m) k ≡ strips e n k ++ strips j m k
+  strips-split e zero m k j h = let d : j ≡ e = omega arith in rw (zero-add, d)
+  strips-split e (suc n) m k j h =
+      let ih = strips-split (suc e) n m k j (omega arith) in
+      rw (suc-add, append-assoc) (λ x. strip e 0 k ++ ih x)
+
+  strip-length : (e i n : ℕ) → length (strip e i n) ≡ n
+  strip-length e i zero = refl
+  strip-length e i (suc n) = ap suc (strip-length e (suc i) n)
+
+  strips-length : (e n k : ℕ) → length (strips e n k) ≡ n * k
+  strips-length e zero k = rw zero-mul
+  strips-length e (suc n) k =
+      length-append (strip e 0 k) (strips (suc e) n k) ∙ (rw (strip-length e 0 k, strips-length (suc e) n k, suc-mul n k) (omega arith))
+
+  pub grid-length : (n k : ℕ) → length (grid n k) ≡ n * k
+  grid-length n k = strips-length 0 n k
 
   -- a relation that holds from a pair to each later one of its strip, and to all of the later strips, holds along the grid
   module _ (R : A → A → Type 0) (along : (e i j : ℕ) → i < j → R (mk e i) (mk e j)) (down : (e f i j : ℕ) → e < f → R (mk e i) (mk f j)) where
