@@ -2,7 +2,7 @@
 -- Assumes nothing.
 use mathlib.Core.Bool.{cond}
 use mathlib.Core.List.{List, [], _∷_, _++_}
-use Prim.Native.Nat.{ℕ, zero, suc, _+_, _/_, _%_}
+use Prim.Native.Nat.{ℕ, zero, suc, _+_, _-_, _*_, _/_, _%_}
 use lib.Dec.{ltb}
 use lib.ListN.{set}
 
@@ -17,6 +17,15 @@ decimalIn (suc turns) n = cond (ltb n 10) (digit n ∷ []) (decimalIn turns (n /
 
 unfoldable pub decimal : ℕ → List ℕ
 decimal n = decimalIn n n
+
+-- what digits say, read from the left, where those before them said a number
+unfoldable pub valueAfter : (before : ℕ) → List ℕ → ℕ
+valueAfter before [] = before
+valueAfter before (d ∷ digits) = valueAfter (10 * before + (d - 48)) digits
+
+-- the number that digits say
+abbrev pub value : List ℕ → ℕ
+value digits = valueAfter 0 digits
 
 -- the list with text in place of what it has from place at on; what does not fit is dropped
 unfoldable pub written : (at : ℕ) (text : List ℕ) → List ℕ → List ℕ

@@ -3,7 +3,7 @@
 ghost use mathlib.Core.Path.{_≡_};
 ghost use mathlib.Core.List.{_∷_, []};
 ghost use Prim.Native.Nat.{_+_, _≤_, _<_};
-ghost use lib.ListN.{length, set};
+ghost use lib.ListN.{length};
 ghost use Rattle.text.specs.Text.{decimal, written};
 
 pub fn put_byte_unchecked(out: &mut [u8], at: usize, byte: u8) -> usize
@@ -29,7 +29,7 @@ pub fn put_bytes_unchecked(out: &mut [u8], at: usize, text: &[u8]) -> usize
 
 // A number in decimal, without leading zeros.
 pub fn put_decimal_unchecked(out: &mut [u8], at: usize, n: usize) -> usize
-    requires { ⌜ (at < 4294967232) × (n < 10000) ⌝ }
+    requires { ⌜ (at < 4294967232) × (n ≤ 4294967295) ⌝ }
     ensures { λ r. ⌜ (now (out .exit) ≡ written at (decimal n) (now (out .entry))) × (r ≡ at + length (decimal n)) ⌝ }
 {
     let mut end = at;
