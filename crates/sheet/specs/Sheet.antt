@@ -106,22 +106,27 @@ refusedWord = 114 ∷ 101 ∷ 102 ∷ 117 ∷ 115 ∷ 101 ∷ 100 ∷ 32 ∷ []
 abbrev pub placeWord : List ℕ
 placeWord = 32 ∷ 112 ∷ 108 ∷ 97 ∷ 99 ∷ 101 ∷ 32 ∷ []
 
+-- a number and the code behind it; a word and the number behind it
+abbrev pub endedBy : (n code : ℕ) → List ℕ
+endedBy n code = decimal n ++ code ∷ []
+
+abbrev pub named : (word : List ℕ) (n : ℕ) → List ℕ
+named word n = word ++ decimal n
+
 -- pass, plane, row base, column in 8-sample units
 unfoldable pub firstLine : SheetHeader → List ℕ
-firstLine h =
-    passWord ++ decimal (h .pass) ++ planeWord ++ decimal (h .plane) ++ rowWord ++ decimal (h .row) ++ colWord ++ decimal (h .col) ++ newline ∷ []
+firstLine h = named passWord (h .pass) ++ named planeWord (h .plane) ++ named rowWord (h .row) ++ named colWord (h .col) ++ newline ∷ []
 
 -- edge, first i, positions, size, level
 unfoldable pub runLine : EdgeRun → List ℕ
-runLine a =
-    decimal (a .edge) ++ space ∷ decimal (a .first) ++ space ∷ decimal (a .count) ++ space ∷ decimal (a .size) ++ space ∷ decimal (a .level) ++ newline ∷ []
+runLine a = endedBy (a .edge) space ++ endedBy (a .first) space ++ endedBy (a .count) space ++ endedBy (a .size) space ++ endedBy (a .level) newline
 
 unfoldable pub runLines : List EdgeRun → List ℕ
 runLines [] = []
 runLines (a ∷ l) = runLine a ++ runLines l
 
 unfoldable pub refusalLine : (number place : ℕ) → List ℕ
-refusalLine number place = refusedWord ++ decimal number ++ placeWord ++ decimal place ++ newline ∷ []
+refusalLine number place = named refusedWord number ++ named placeWord place ++ newline ∷ []
 
 abbrev pub printed : SheetHeader → Outcome (List EdgeRun) → List ℕ
 printed h (accepted l) = firstLine h ++ runLines l
