@@ -7,27 +7,15 @@ ghost use Rattle.exports.specs.Border.{numbersOf};
 use crate::border::Refusal;
 use crate::border::numbers;
 use pass::PassAnswer;
+use pass::number_of;
+use pass::place_of;
 use window::WindowShape;
 
 fn refusal_of(answer: PassAnswer) -> Refusal
     requires { ⌜ returnedOf answer .place ≤ 4294967295 ⌝ }
     ensures { λ r. ⌜ numbersOf r ≡ returnedOf answer ⌝ }
 {
-    match answer {
-        PassAnswer::Done => numbers(0, 0),
-        PassAnswer::Sharpness => numbers(1, 0),
-        PassAnswer::Depth => numbers(2, 0),
-        PassAnswer::Subsampling => numbers(3, 0),
-        PassAnswer::FrameSize => numbers(4, 0),
-        PassAnswer::Row => numbers(5, 0),
-        PassAnswer::Short => numbers(7, 0),
-        PassAnswer::Plane => numbers(9, 0),
-        PassAnswer::Column => numbers(10, 0),
-        PassAnswer::Cell(k) => numbers(11, k),
-        PassAnswer::Window => numbers(12, 0),
-        PassAnswer::Sample(k) => numbers(13, k),
-        PassAnswer::Level(k) => numbers(14, k),
-    }
+    numbers(number_of(answer), place_of(answer))
 }
 
 // The cells are those of the superblock row that starts at row. The window is height rows of width samples, stride apart, the

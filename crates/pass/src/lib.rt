@@ -66,10 +66,19 @@ pub fn place_of(answer: PassAnswer) -> usize
     ensures { λ r. ⌜ r ≡ returnedOf answer .place ⌝ }
 {
     match answer {
+        PassAnswer::Done => 0,
+        PassAnswer::Sharpness => 0,
+        PassAnswer::Depth => 0,
+        PassAnswer::Subsampling => 0,
+        PassAnswer::FrameSize => 0,
+        PassAnswer::Row => 0,
+        PassAnswer::Short => 0,
+        PassAnswer::Plane => 0,
+        PassAnswer::Column => 0,
         PassAnswer::Cell(k) => k,
+        PassAnswer::Window => 0,
         PassAnswer::Sample(k) => k,
         PassAnswer::Level(k) => k,
-        _ => 0,
     }
 }
 
