@@ -3,6 +3,8 @@ ghost use mathlib.Core.Path.{_≡_};
 ghost use Rattle.sheet.specs.SheetAnswers.{answerOf, textOf};
 
 mod header;
+mod print;
+mod runs;
 
 // How many bytes of text were written, or that the buffer has too little room.
 pub enum SheetAnswer {

@@ -1,11 +1,11 @@
 // The lines of a run sheet.
-ghost use mathlib.Core.Path.{_≡_};
+ghost use mathlib.Core.List.{_∷_, [], _++_};
 ghost use Prim.Native.Nat.{_+_, _≤_, _<_};
 ghost use lib.ListN.{length};
 ghost use Rattle.decided.specs.RunsLaws.{Small};
-ghost use Rattle.text.specs.Text.{decimal, written};
+ghost use Rattle.text.specs.Text.{Put};
 ghost use Rattle.sheet.specs.HeaderLaws.{Header};
-ghost use Rattle.sheet.specs.Sheet.{firstLine, runLine, refusalLine};
+ghost use Rattle.sheet.specs.Sheet.{endedBy, named, firstLine, runLine, refusalLine};
 use crate::header::SheetHeader;
 use decided::EdgeRun;
 use text::put_byte_unchecked;
@@ -14,26 +14,26 @@ use text::put_decimal_unchecked;
 
 // A number, and the byte behind it.
 fn put_number(out: &mut [u8], at: usize, n: usize, byte: u8) -> usize
-    requires { ⌜ (at ≤ 65536) × (n < 10000) ⌝ }
-    ensures { λ r. ⌜ (now (out .exit) ≡ written at (decimal n ++ byte ∷ []) (now (out .entry))) × (r ≡ at + length (decimal n ++ byte ∷ [])) × (r ≤ at + 5) ⌝ }
+    requires { ⌜ (at ≤ 65536) × (n < 100) ⌝ }
+    ensures { λ r. ⌜ Put at (endedBy n byte) (now (out .entry)) (now (out .exit)) r × (r ≤ at + 3) ⌝ }
 {
     let end = put_decimal_unchecked(out, at, n);
     put_byte_unchecked(out, end, byte)
 }
 
 // A word, and the number behind it.
-fn put_named(out: &mut [u8], at: usize, name: &[u8], n: usize) -> usize
-    requires { ⌜ (at ≤ 65536) × (length (now name) ≤ 8) × (n < 10000) ⌝ }
-    ensures { λ r. ⌜ (now (out .exit) ≡ written at (now (name .entry) ++ decimal n) (now (out .entry))) × (r ≡ at + length (now (name .entry) ++ decimal n)) × (r ≤ at + 12) ⌝ }
+fn put_named(out: &mut [u8], at: usize, word: &[u8], n: usize) -> usize
+    requires { ⌜ (at ≤ 65536) × (length (now word) ≤ 8) × (n < 10000) ⌝ }
+    ensures { λ r. ⌜ Put at (named (now (word .entry)) n) (now (out .entry)) (now (out .exit)) r × (r ≤ at + 12) ⌝ }
 {
-    let end = put_bytes_unchecked(out, at, name);
+    let end = put_bytes_unchecked(out, at, word);
     put_decimal_unchecked(out, end, n)
 }
 
 // pass, plane, row base, column.
 pub(crate) fn print_first(out: &mut [u8], h: SheetHeader) -> usize
     requires { ⌜ Header h ⌝ }
-    ensures { λ r. ⌜ (now (out .exit) ≡ written 0 (firstLine h) (now (out .entry))) × (r ≡ length (firstLine h)) × (r ≤ 49) ⌝ }
+    ensures { λ r. ⌜ Put 0 (firstLine h) (now (out .entry)) (now (out .exit)) r × (r ≤ 49) ⌝ }
 {
     let pass = put_named(out, 0, b"pass ", h.pass as usize);
     let plane = put_named(out, pass, b" plane ", h.plane as usize);
@@ -43,9 +43,9 @@ pub(crate) fn print_first(out: &mut [u8], h: SheetHeader) -> usize
 }
 
 // edge, first position, positions, size, level.
-fn print_run(out: &mut [u8], at: usize, a: EdgeRun) -> usize
+pub(crate) fn print_run(out: &mut [u8], at: usize, a: EdgeRun) -> usize
     requires { ⌜ (at ≤ 32768) × Small a ⌝ }
-    ensures { λ r. ⌜ (now (out .exit) ≡ written at (runLine a) (now (out .entry))) × (r ≡ at + length (runLine a)) × (r ≤ at + 25) ⌝ }
+    ensures { λ r. ⌜ Put at (runLine a) (now (out .entry)) (now (out .exit)) r × (r ≤ at + 15) ⌝ }
 {
     let edge = put_number(out, at, a.edge, b' ');
     let first = put_number(out, edge, a.first, b' ');
@@ -55,8 +55,8 @@ fn print_run(out: &mut [u8], at: usize, a: EdgeRun) -> usize
 }
 
 pub(crate) fn print_refusal(out: &mut [u8], number: usize, place: usize) -> usize
-    requires { ⌜ (number < 10000) × (place < 10000) ⌝ }
-    ensures { λ r. ⌜ (now (out .exit) ≡ written 0 (refusalLine number place) (now (out .entry))) × (r ≡ length (refusalLine number place)) ⌝ }
+    requires { ⌜ (number < 100) × (place < 10000) ⌝ }
+    ensures { λ r. ⌜ Put 0 (refusalLine number place) (now (out .entry)) (now (out .exit)) r ⌝ }
 {
     let end = put_named(out, 0, b"refused ", number);
     let line = put_named(out, end, b" place ", place);

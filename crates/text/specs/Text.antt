@@ -1,10 +1,11 @@
 -- Text as lists of ASCII codes, and a list with text written over a part of it.
 -- Assumes nothing.
+use mathlib.Core.Path.{_≡_}
 use mathlib.Core.Bool.{cond}
 use mathlib.Core.List.{List, [], _∷_, _++_}
 use Prim.Native.Nat.{ℕ, zero, suc, _+_, _-_, _*_, _/_, _%_}
 use lib.Dec.{ltb}
-use lib.ListN.{set}
+use lib.ListN.{length, set}
 
 -- the digit of a number below 10
 abbrev pub digit : ℕ → ℕ
@@ -31,3 +32,7 @@ value digits = valueAfter 0 digits
 unfoldable pub written : (at : ℕ) (text : List ℕ) → List ℕ → List ℕ
 written at [] out = out
 written at (b ∷ text) out = written (suc at) text (set out at b)
+
+-- text was written at a place, and end is the place behind it
+abbrev pub Put : (at : ℕ) (text before after : List ℕ) (end : ℕ) → Type 0
+Put at text before after end = (after ≡ written at text before) × (end ≡ at + length text)

@@ -12,7 +12,7 @@ use lib.Dec.{ltb}
 use lib.ListN.{length, getD, take, drop, set, length-append, length-set}
 use lib.Seq.{sets, sets-eq, length-take-le, take-suc}
 use borrow.Author.Tests.{lt-ltb, le-ltb, ltb-true, ltb-false}
-use Rattle.text.specs.Text.{digit, decimalIn, decimal, value, valueAfter, written}
+use Rattle.text.specs.Text.{digit, decimalIn, decimal, value, valueAfter, written, Put}
 
 pub written-none : (at : ℕ) (out : List ℕ) → out ≡ written at [] out
 unfolding written
@@ -128,3 +128,8 @@ decimal-digits n d = by-digits (λ n l. List·Memᴰ d l → (48 ≤ d) × (d �
     more : (n : ℕ) (front : List ℕ) → 10 ≤ n → (List·Memᴰ d front → (48 ≤ d) × (d ≤ 57))
         → List·Memᴰ d (front ++ digit (n % 10) ∷ []) → (48 ≤ d) × (d ≤ 57)
     more n front p f m = ⊎-elim f (one (n % 10) (omega arith)) (List·Memᴰ·append-cases front m)
+
+-- text behind text
+pub put-then : (at : ℕ) (a b before : List ℕ) {between after : List ℕ} {end end′ : ℕ} → Put at a before between end → Put end b between after end′ → Put at (a ++ b) before after end′
+put-then at a b before p q =
+    (q .0 ∙ (λ i. written (p .1 i) b (p .0 i)) ∙ written-append at a b before, q .1 ∙ omega (arith, p .1, length-append a b))
