@@ -1,4 +1,5 @@
 pub mod Decided
 pub mod Runs
 pub mod JoinLaws
+pub mod CellRunLaws
 pub mod RunsLaws

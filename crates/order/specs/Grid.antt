@@ -180,6 +180,10 @@ module _ {A : Type 0} (mk : ℕ → ℕ → A) where
   pub grid-mem : (n k : ℕ) {x : A} → List·Memᴰ x (grid n k) → Cell x 0 (0 + n) 0 k
   grid-mem n k m = strips-mem 0 n k m
 
+  -- what holds of each pair holds of each member
+  pub grid-all : (P : A → Type 0) (n k : ℕ) → ((e i : ℕ) → e < n → i < k → P (mk e i)) → (x : A) → List·Memᴰ x (grid n k) → P x
+  grid-all P n k h x m = let r = grid-mem n k m in rw (r .is) (h (r .e) (r .i) (omega arith) (r .to))
+
   pub mem-grid : (n k f j : ℕ) → f < n → j < k → List·Memᴰ (mk f j) (grid n k)
   mem-grid n k f j h b = mem-strips 0 n k f j (omega arith) (omega arith) b
 
