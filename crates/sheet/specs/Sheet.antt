@@ -47,36 +47,32 @@ headerOf bytes =
 unfoldable pub badHeader : SheetHeader → Bool
 badHeader h = not (eqb (h .spare) 0) || ltb 1024 (h .cols)
 
--- the cells of the superblock row, from the words behind the header
+-- what the header and the cells of the superblock row make of a pass
+abbrev pub sheetSetting : SheetHeader → (cells : List ℕ) → Setting
+sheetSetting h cells = settingOf (h .sharpness) (h .depth) (h .subx) (h .suby) (h .cols) (h .rows) (h .row) (h .col) (h .plane) cells
+
+-- the runs, and the refusals 11 and 14, which the cells decide
+unfoldable pub cellsRuns : SheetHeader → (cells : List ℕ) → Outcome (List EdgeRun)
+cellsRuns h cells =
+    let t = sheetSetting h cells in
+    let s = t .superblock in
+    let pass = passOf (h .pass) in
+    refuseFirst (badCell cells) (cellsFrom (h .row) (h .cols) (h .rows)) 11
+    (refuseFirst (levelless s pass (t .chroma) cells) (64 * edgeCount s pass) 14
+    (accepted (runs s pass (t .chroma) cells)))
+
+-- the cells, from the words behind the header
 abbrev pub cellsOf : (bytes : List ℕ) → List ℕ
-cellsOf bytes =
-    let h = headerOf bytes in
-    wordsAt bytes 8 (cellsFrom (h .row) (h .cols) (h .rows))
-
-abbrev pub sheetSetting : (bytes : List ℕ) → Setting
-sheetSetting bytes =
-    let h = headerOf bytes in
-    settingOf (h .sharpness) (h .depth) (h .subx) (h .suby) (h .cols) (h .rows) (h .row) (h .col) (h .plane) (cellsOf bytes)
-
--- refusals 11 and 14, which the cells decide, and what follows them
-abbrev pub cellsRefused : {A : Type 0} → (bytes : List ℕ) → Outcome A → Outcome A
-cellsRefused bytes after =
-    let h = headerOf bytes in
-    let t = sheetSetting bytes in
-    refuseFirst (badCell (t .cells)) (cellsFrom (h .row) (h .cols) (h .rows)) 11
-    (refuseFirst (levelless (t .superblock) (passOf (h .pass)) (t .chroma) (t .cells)) (64 * edgeCount (t .superblock) (passOf (h .pass))) 14
-    after)
+cellsOf bytes = let h = headerOf bytes in wordsAt bytes 8 (cellsFrom (h .row) (h .cols) (h .rows))
 
 -- the runs of a sheet: under 8 bytes it gets 7 before any other test, then 17 is tested, then the rest in number order
 unfoldable pub sheetRuns : (bytes : List ℕ) → Outcome (List EdgeRun)
 sheetRuns bytes =
     let h = headerOf bytes in
-    let t = sheetSetting bytes in
     refuse (ltb (length bytes) 8) 7 0
     (refuse (badHeader h) 17 0
     (numbersRefused (h .sharpness) (h .depth) (h .subx) (h .suby) (h .cols) (h .rows) (h .row) (h .col) (h .plane) (h .pass) ((length bytes - 8) / 4)
-    (cellsRefused bytes
-    (accepted (runs (t .superblock) (passOf (h .pass)) (t .chroma) (t .cells))))))
+    (cellsRuns h (cellsOf bytes))))
 
 -- ---- its text, as ASCII codes
 

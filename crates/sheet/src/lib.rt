@@ -1,13 +1,125 @@
 // Document 01's run sheet: the runs of a pass, as text.
 ghost use mathlib.Core.Path.{_≡_};
+ghost use mathlib.Core.List.{[]};
+ghost use Prim.Native.Nat.{_-_, _/_, _≤_};
+ghost use lib.ListN.{length};
+ghost use Rattle.geometry.specs.Frame.{cellsFrom};
+ghost use Rattle.positions.specs.Positions.{Placed};
+ghost use Rattle.text.specs.Text.{Put};
+ghost use Rattle.sheet.specs.HeaderLaws.{Header};
+ghost use Rattle.sheet.specs.Sheet.{sheetSetting, headerOf, cellsOf, cellsRuns, printed, runSheet};
 ghost use Rattle.sheet.specs.SheetAnswers.{answerOf, textOf};
 
-mod header;
+pub mod header;
 mod print;
 mod runs;
+
+use cells::any_bad_word_unchecked;
+use cells::bytes::words_at_unchecked;
+use cells::first_bad_word_unchecked;
+use edges::decision::first_levelless_unchecked;
+use geometry::Superblock;
+use geometry::cell_count_unchecked;
+use header::SheetHeader;
+use header::bad_header;
+use header::header_of;
+use pass::PassAnswer;
+use pass::faults::number_faults;
+use pass::number_of;
+use pass::place_of;
+use positions::edge_count;
+use positions::pass_of;
+use print::print_first;
+use print::print_refusal;
+use runs::print_runs;
 
 // How many bytes of text were written, or that the buffer has too little room.
 pub enum SheetAnswer {
     Written(usize),
     Room,
+}
+
+// Plane 0 counts as not subsampled.
+fn superblock_of(h: SheetHeader) -> Superblock
+    ensures { λ r. ⌜ r ≡ sheetSetting h [] .superblock ⌝ }
+{
+    let chroma = 0 < h.plane;
+    Superblock {
+        subx: chroma & (h.subx == 1),
+        suby: chroma & (h.suby == 1),
+        cols: h.cols,
+        rows: h.rows,
+        row: h.row,
+        col: h.col,
+    }
+}
+
+// 11 and 14 are tested, and then the runs are printed.
+fn print_cells(out: &mut [u8], h: SheetHeader, cells: &[u32]) -> usize
+    requires { ⌜ Header h × Placed (sheetSetting h [] .superblock) × (cellsFrom (h .row) (h .cols) (h .rows) ≤ length (now cells)) × (h .cols ≤ 1024) ⌝ }
+    ensures { λ r. ⌜ Put 0 (printed h (cellsRuns h (now (cells .entry)))) (now (out .entry)) (now (out .exit)) r ⌝ }
+{
+    let count = cell_count_unchecked(h.row, h.cols, h.rows);
+    if any_bad_word_unchecked(cells, count) {
+        return print_refusal(out, 11, first_bad_word_unchecked(cells, count));
+    }
+    let s = superblock_of(h);
+    let pass = pass_of(h.pass);
+    let chroma = 0 < h.plane;
+    let place = first_levelless_unchecked(cells, s, pass, chroma);
+    if place < 64 * edge_count(s, pass) {
+        return print_refusal(out, 14, place);
+    }
+    let at = print_first(out, h);
+    print_runs(out, at, cells, s, pass, chroma)
+}
+
+// The numbers are tested: the words behind the header are the cells.
+fn print_words(out: &mut [u8], sheet: &[u8], h: SheetHeader) -> usize
+    requires { ⌜ (h ≡ headerOf (now sheet)) × Placed (sheetSetting h [] .superblock) × (cellsFrom (h .row) (h .cols) (h .rows) ≤ (length (now sheet) - 8) / 4) × (h .cols ≤ 1024) ⌝ }
+    ensures { λ r. ⌜ Put 0 (printed h (cellsRuns h (cellsOf (now (sheet .entry))))) (now (out .entry)) (now (out .exit)) r ⌝ }
+{
+    let mut words = [0u32; 8192];
+    let count = cell_count_unchecked(h.row, h.cols, h.rows);
+    words_at_unchecked(sheet, 8, count, &mut words);
+    print_cells(out, h, &words[..count])
+}
+
+fn print_sheet(out: &mut [u8], sheet: &[u8]) -> usize
+    ensures { λ r. ⌜ Put 0 (runSheet (now (sheet .entry))) (now (out .entry)) (now (out .exit)) r ⌝ }
+{
+    if sheet.len() < 8 {
+        return print_refusal(out, 7, 0);
+    }
+    let h = header_of(sheet);
+    if bad_header(h) {
+        return print_refusal(out, 17, 0);
+    }
+    let faults = number_faults(
+        h.sharpness,
+        h.depth,
+        h.subx,
+        h.suby,
+        h.cols,
+        h.rows,
+        h.row,
+        h.col,
+        h.plane,
+        h.pass,
+        (sheet.len() - 8) / 4,
+    );
+    if let PassAnswer::Done = faults {
+        return print_words(out, sheet, h);
+    }
+    print_refusal(out, number_of(faults) as usize, place_of(faults))
+}
+
+// Takes any bytes. The text stands at the front of the buffer; a buffer of fewer than 2,048 bytes is left as it is.
+pub fn run_sheet(sheet: &[u8], out: &mut [u8]) -> SheetAnswer
+    ensures { λ r. ⌜ (r ≡ answerOf (now (sheet .entry)) (now (out .entry))) × (now (out .exit) ≡ textOf (now (sheet .entry)) (now (out .entry))) ⌝ }
+{
+    if 2047 < out.len() {
+        return SheetAnswer::Written(print_sheet(out, sheet));
+    }
+    SheetAnswer::Room
 }
