@@ -135,7 +135,7 @@ module _ (t : Setting) (pass : Pass) where
   abbrev First : EdgeRun → Type 0
   First b = (b .count ≡ len) × Says (b .size) (b .level) (decisionAt t pass (position (b .edge) (b .first)))
 
-  -- of a cell that is by definition so at its first position
+  -- a cell has by definition what is decided at its first position
   pub first-says : (b : EdgeRun) → List·Memᴰ b cellsOf → First b
   unfolding cellRun
   first-says = grid-all cellAt First (edgeCount (t .superblock) pass) 8 (λ edge c h k. (refl, record { size = refl; level = refl }))
@@ -149,9 +149,8 @@ module _ (t : Setting) (pass : Pass) where
       let r = strip-mem position edge (start c) len m in
       let e : r .e ≡ edge = omega arith in
       let i : r .i ≡ start c + (r .i - start c) = omega arith in
-      let d =
-      ap (decisionAt t pass) (r .is ∙ (λ x. position (e x) (i x)))
-      ∙ same-decision (t .superblock) pass (t .chroma) (t .cells) edge c (r .i - start c) (omega arith) in
+      let at = ap (decisionAt t pass) (r .is ∙ (λ x. position (e x) (i x))) in
+      let d = at ∙ same-decision (t .superblock) pass (t .chroma) (t .cells) edge c (r .i - start c) (omega arith) in
       record { size = ap (λ (x : Decision). x .size) d; level = ap levelOf d }
 
   longer-uniform : (a b : EdgeRun) → Joins a b → Uniform a → Uniform b → Uniform (longer a (b .count))

@@ -38,12 +38,12 @@ joins-true a b h =
       count = leb-true _ _ (q .1);
     }
 
-pub joins-false : (a b : EdgeRun) → joins a b ≡ false → Joins a b → ⊥
+pub joins-holds : (a b : EdgeRun) → Joins a b → joins a b ≡ true
 unfolding joins
-joins-false a b h j =
-    let holds : joins a b ≡ true =
-    rw (eq-eqb _ _ (j .edge), eq-eqb _ _ (j .first), eq-eqb _ _ (j .size), eq-eqb _ _ (j .level), le-leb _ _ (j .count)) in
-    true≢false (sym holds ∙ h)
+joins-holds a b j = rw (eq-eqb _ _ (j .edge), eq-eqb _ _ (j .first), eq-eqb _ _ (j .size), eq-eqb _ _ (j .level), le-leb _ _ (j .count))
+
+pub joins-false : (a b : EdgeRun) → joins a b ≡ false → Joins a b → ⊥
+joins-false a b h j = true≢false (sym (joins-holds a b j) ∙ h)
 
 -- ---- the steps of joining: r is a, and the runs of l behind it, joined from the front
 
