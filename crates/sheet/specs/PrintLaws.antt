@@ -6,7 +6,7 @@ use mathlib.Core.Bool.{Bool, true, false, cond}
 use mathlib.Core.List.{List, [], _∷_, _++_, append-assoc, append-nil}
 use Prim.Native.Nat.{ℕ, zero, suc, _+_, _*_, _≤_, _<_}
 use native.Mathlib.Omega.{arith}
-use borrow.Author.Tests.{le-ltb}
+use borrow.Author.Tests.{lt-ltb, le-ltb}
 use lib.ListN.{length, length-append}
 use Rattle.decided.specs.JoinLaws.{joins-true}
 use Rattle.decided.specs.Runs.{cellRun, joins, longer, joinedFrom, joined, runFilters, runs}
@@ -15,10 +15,10 @@ use Rattle.decided.specs.declared.EdgeRun.{EdgeRun}
 use Rattle.geometry.specs.Coordinates.{shr}
 use Rattle.geometry.specs.declared.Pass.{Pass}
 use Rattle.geometry.specs.declared.Superblock.{Superblock}
-use Rattle.order.specs.Grid.{keep-if, select, strip, strips, grid, strip-split, strips-split}
+use Rattle.order.specs.Grid.{keep-if, select, strip, strips, grid, strip-split, strips-split, grid-length}
 use Rattle.positions.specs.Positions.{sub, alongSub, edgeCount}
 use Rattle.text.specs.Text.{Put}
-use Rattle.text.specs.TextLaws.{written-none, put-then}
+use Rattle.text.specs.TextLaws.{written-none, written-length, put-then}
 use Rattle.sheet.specs.Sheet.{runLine, runLines}
 use Rattle.sheet.specs.declared.runs.Printed.{Printed}
 
@@ -49,6 +49,35 @@ pub record Fed (l : List EdgeRun) (p : Printed) (before after : List ℕ) (r : P
   pub small : Small (r .pending)
   pub near : r .at ≤ p .at + 15 * length l
 
+-- ---- one cell
+
+put-none : (at : ℕ) (out : List ℕ) → Put at [] out out at
+put-none at out = (written-none at out, omega arith)
+
+pub pending-filters : (a : EdgeRun) → 0 < a .level → runLine a ≡ pendingText a
+unfolding pendingText
+pending-filters a h = rw (lt-ltb 0 (a .level) h)
+
+pub pending-none : (a : EdgeRun) (at : ℕ) (out : List ℕ) → a .level ≤ 0 → Put at (pendingText a) out out at
+unfolding pendingText
+pending-none a at out h = rw (le-ltb 0 (a .level) h) (put-none at out)
+
+-- the cell b, which the code has as next, is joined, or is pending in place of the run that was
+module _ (p : Printed) {next b : EdgeRun} (e : next ≡ b) where
+  pub fed-joins : (out : List ℕ) {more : EdgeRun} → joins (p .pending) next ≡ true → (more ≡ longer (p .pending) (next .count)) × Small more
+      → Fed (b ∷ []) p out out (record { at = p .at; pending = more })
+  unfolding fedText fedPending addedText grown
+  fed-joins out h made =
+      let j : joins (p .pending) b ≡ true = rw e at h in
+      record { put = rw j (put-none (p .at) out); pending = rw j (rw e at (made .0)); small = made .1; near = omega arith }
+
+  pub fed-parts : {before after : List ℕ} {end : ℕ} → joins (p .pending) next ≡ false → Small next
+      → Put (p .at) (pendingText (p .pending)) before after end × (end ≤ p .at + 15) → Fed (b ∷ []) p before after (record { at = end; pending = next })
+  unfolding fedText fedPending addedText grown
+  fed-parts h small put =
+      let j : joins (p .pending) b ≡ false = rw e at h in
+      record { put = rw (j, append-nil (pendingText (p .pending))) (put .0); pending = rw j e; small = small; near = put .1 }
+
 -- ---- cells, and the next behind them
 
 fed-text-append : (a : EdgeRun) (l m : List EdgeRun) → fedText a (l ++ m) ≡ fedText a l ++ fedText (fedPending a l) m
@@ -63,9 +92,6 @@ unfolding fedPending
 fed-pending-append a [] m = refl
 fed-pending-append a (b ∷ l) m = fed-pending-append (grown a b) l m
 
-put-none : (at : ℕ) (out : List ℕ) → Put at [] out out at
-put-none at out = (written-none at out, omega arith)
-
 pub fed-none : (p : Printed) (out : List ℕ) → Small (p .pending) → Fed [] p out out p
 unfolding fedText fedPending
 fed-none p out small = record { put = put-none (p .at) out; pending = refl; small = small; near = omega arith }
@@ -79,6 +105,9 @@ fed-then {l} {m} {p} {before = before} f g =
       small = g .small;
       near = omega (arith, f .near, g .near, length-append l m);
     }
+
+pub fed-length : {l : List EdgeRun} {p q : Printed} {before after : List ℕ} → Fed l p before after q → length after ≡ length before
+fed-length {l} {p} {before = before} f = ap length (f .put .0) ∙ written-length (p .at) (fedText (p .pending) l) before
 
 -- ---- all cells: what was printed, and the run that is left pending, are the runs that filter
 
@@ -132,6 +161,17 @@ first-none false = refl
 module _ (s : Superblock) (pass : Pass) (chroma : Bool) (cells : List ℕ) where
   abbrev cellAt : (edge c : ℕ) → EdgeRun
   cellAt = cellRun s pass chroma cells
+
+  strip-length : (edge c n : ℕ) → length (strip cellAt edge c n) ≡ n
+  strip-length edge c zero = refl
+  strip-length edge c (suc n) = ap suc (strip-length edge (suc c) n)
+
+  -- so many cells end so near
+  pub strip-near : (edge c : ℕ) {p q : Printed} {before after : List ℕ} → Fed (strip cellAt edge 0 c) p before after q → q .at ≤ p .at + 15 * c
+  strip-near edge c f = omega (arith, f .near, strip-length edge 0 c)
+
+  pub grid-near : (edges : ℕ) {p q : Printed} {before after : List ℕ} → Fed (grid cellAt edges 8) p before after q → q .at ≤ p .at + 120 * edges
+  grid-near edges f = omega (arith, f .near, grid-length cellAt edges 8)
 
   -- one more cell of an edge, and one more edge
   pub fed-strip : (edge c : ℕ) {p q r : Printed} {before between after : List ℕ}
