@@ -12,6 +12,7 @@ pub mod random;
 pub mod rows;
 #[cfg(oracle)]
 pub mod rust;
+pub mod sheets;
 pub mod vectors;
 
 use std::io::Write;

@@ -4,7 +4,7 @@ pub mod reached;
 mod samples;
 pub mod small;
 mod windows;
-mod words;
+pub(crate) mod words;
 
 use crate::random::Random;
 use crate::rows::superblock;

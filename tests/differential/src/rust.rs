@@ -1,8 +1,10 @@
 //! The Rust's answers.
 
 mod pass;
+mod runs;
 
 pub use pass::{cells, over, pass, pass_lists};
+pub use runs::runs;
 
 use crate::{cases::Case, lines::Line, rows::Row};
 use oracle::filter_size::filter_size;

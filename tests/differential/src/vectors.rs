@@ -20,6 +20,8 @@
 //! two each: mi_cols, mi_rows, row, col. From 16 on four each: width, height, stride, y_origin, how many
 //! samples are lent, the refusal's place. From 40 on 32 cells of four bytes, from 168 on 640 samples
 //! before and from 1,448 on 640 samples after, of two bytes; cells and samples that are not lent are 0.
+//! sheets.bin: records of 1,860 bytes. Two bytes each, the lower first: how many bytes the sheet has, how
+//! many its text. From byte 4 on 272 bytes of the sheet, from 276 on 1,584 of the text, 0 behind theirs.
 
 #[cfg(oracle)]
 mod edges;
@@ -27,13 +29,15 @@ mod edges;
 mod passes;
 #[cfg(oracle)]
 mod rows;
+#[cfg(oracle)]
+mod sheets;
 
 use crate::lines::{Line, STEP};
 use crate::{cases::Case, libvpx};
 use std::collections::HashSet;
 
 /// Name and contents of each file; no contents where its source is not at hand.
-pub fn files() -> [(&'static str, Option<Vec<u8>>); 7] {
+pub fn files() -> [(&'static str, Option<Vec<u8>>); 8] {
     let folder = libvpx::folder();
     let (rows, edges) = folder.as_deref().and_then(rows_and_edges).unzip();
     [
@@ -44,6 +48,7 @@ pub fn files() -> [(&'static str, Option<Vec<u8>>); 7] {
         ("rows.bin", rows),
         ("edges.bin", edges),
         ("passes.bin", passes()),
+        ("sheets.bin", sheets()),
     ]
 }
 
@@ -65,6 +70,16 @@ fn passes() -> Option<Vec<u8>> {
 #[cfg(oracle)]
 fn passes() -> Option<Vec<u8>> {
     Some(passes::contents())
+}
+
+#[cfg(not(oracle))]
+fn sheets() -> Option<Vec<u8>> {
+    None
+}
+
+#[cfg(oracle)]
+fn sheets() -> Option<Vec<u8>> {
+    Some(sheets::contents())
 }
 
 #[cfg(not(oracle))]

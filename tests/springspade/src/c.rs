@@ -115,4 +115,10 @@ unsafe extern "C" {
         stride: usize,
         y_origin: usize,
     ) -> Returned;
+    pub fn springspade_sheet(
+        sheet: *const u8,
+        sheet_len: usize,
+        out: *mut u8,
+        out_len: usize,
+    ) -> usize;
 }

@@ -7,6 +7,7 @@ mod levels;
 mod line;
 mod pass;
 mod row;
+mod sheet;
 mod strength;
 
 pub use cell::{Cell, cell};
@@ -15,6 +16,7 @@ pub use levels::{Lists, LoopFilter, Segmentation, level_table, level_table_into}
 pub use line::line;
 pub use pass::{Superblock, Window, pass, pass_returned};
 pub use row::{Frame, ModeInfo, row, row_returned};
+pub use sheet::{SHEET_ROOM, sheet, sheet_into};
 pub use strength::{Strength, mode_type, strength, strength_returned};
 
 /// What a call returns: number and place of a refusal, both 0 where it accepts.

@@ -61,10 +61,13 @@ pub fn over(pass: &Pass, cells: &HookRow) -> Vec<u16> {
 /// The cells in the Rust's form.
 pub fn cells(pass: &Pass) -> HookRow {
     let Frame { sharpness, depth, sub_x, sub_y, mi_cols, mi_rows } = pass.frame;
-    let words = &pass.cells[..pass.row_cells()];
-    let cells: Vec<HookCell> = words.iter().map(|&word| hook_cell(unpacked(word).0)).collect();
     let (base, mi_cols, mi_rows) = (pass.at.row as u32, mi_cols as u32, mi_rows as u32);
-    HookRow::from_cells(&cells, base, mi_cols, mi_rows, sub_x, sub_y, depth, sharpness)
+    HookRow::from_cells(&hook_cells(pass), base, mi_cols, mi_rows, sub_x, sub_y, depth, sharpness)
+}
+
+pub(super) fn hook_cells(pass: &Pass) -> Vec<HookCell> {
+    let words = &pass.cells[..pass.row_cells()];
+    words.iter().map(|&word| hook_cell(unpacked(word).0)).collect()
 }
 
 /// 255 stands for an absent level.
@@ -89,7 +92,8 @@ fn returned(pass: &Pass, mut samples: Vec<u16>) -> Vec<u16> {
     samples
 }
 
-fn levelled<T>(run: impl FnOnce() -> T) -> Option<T> {
+/// None where the Rust panics for a cell without level.
+pub(super) fn levelled<T>(run: impl FnOnce() -> T) -> Option<T> {
     match panic_of(run) {
         Ok(samples) => Some(samples),
         Err(message) if message.contains("segment_id must be < 8") => None,
