@@ -1,6 +1,11 @@
--- How large the numbers of a sheet's header are.
+-- Laws of a sheet's header: how large its numbers are, and its bits from two words.
 -- Assumes nothing.
-use Prim.Native.Nat.{_≤_, _<_}
+use mathlib.Core.Path.{_≡_}
+use mathlib.Core.List.{List}
+use Prim.Native.Nat.{ℕ, _+_, _*_, _≤_, _<_}
+use native.Mathlib.Omega.{arith}
+use Rattle.cells.specs.Cell.{bytesAt}
+use Rattle.sheet.specs.Sheet.{headerOf}
 use Rattle.sheet.specs.declared.header.SheetHeader.{SheetHeader}
 
 pub record Header (h : SheetHeader) : Type 0 where
@@ -8,3 +13,10 @@ pub record Header (h : SheetHeader) : Type 0 where
   pub pass : h .pass ≤ 1
   pub row : h .row < 8192
   pub col : h .col < 8192
+
+pub header-small : (bytes : List ℕ) → Header (headerOf bytes)
+unfolding headerOf
+header-small bytes = record { plane = omega arith; pass = omega arith; row = omega arith; col = omega arith }
+
+pub bits-halves : (bytes : List ℕ) → bytesAt bytes 0 4 * 4294967296 + bytesAt bytes 4 4 ≡ bytesAt bytes 0 8
+bits-halves bytes = omega arith

@@ -3,7 +3,6 @@ ghost use mathlib.Core.Path.{_≡_};
 ghost use Prim.Native.Nat.{_≤_, _<_};
 ghost use lib.ListN.{length};
 ghost use Rattle.sheet.specs.Sheet.{depthOf, headerOf, badHeader};
-ghost use Rattle.sheet.specs.HeaderLaws.{Header};
 use cells::bytes::word_at_unchecked;
 
 // MiCols and MiRows, subsampling, sharpness, depth (0 where the code is none), plane, pass, row base and column in cells, and
@@ -31,7 +30,7 @@ fn depth_of(code: u8) -> u8
 
 pub(crate) fn header_of(sheet: &[u8]) -> SheetHeader
     requires { ⌜ 8 ≤ length (now sheet) ⌝ }
-    ensures { λ r. ⌜ (r ≡ headerOf (now (sheet .entry))) × Header r ⌝ }
+    ensures { λ r. ⌜ r ≡ headerOf (now (sheet .entry)) ⌝ }
 {
     let bits = word_at_unchecked(sheet, 0) as u64 * 4294967296 + word_at_unchecked(sheet, 4) as u64;
     SheetHeader {

@@ -1,28 +1,16 @@
 use borrow.Author.Needs.{needs}
+use native.Mathlib.Omega.{arith}
+use lib.ListN.{length-append}
+use Rattle.text.specs.Text.{decimal}
+use Rattle.text.specs.TextLaws.{put-then, decimal-length}
 use Rattle.sheet.proofs.print.put_named.Statement.{statement}
 use Rattle.sheet.proofs.print.put_named.Tie as tie
-use Rattle.sheet.proofs.print.put_named.Reads as reads
-use Rattle.sheet.proofs.print.put_named.Lts as lts
-use Rattle.text.proofs.put_bytes_unchecked.Reads as put-bytes-unchecked-reads
-use Rattle.text.proofs.put_decimal_unchecked.Reads as put-decimal-unchecked-reads
 
--- src/print.rt:29:9
-put-bytes-unchecked-requires : tie.Need-put-bytes-unchecked-requires
-put-bytes-unchecked-requires c κs = search needs
-
--- src/print.rt:30:5
-put-decimal-unchecked-requires : tie.Need-put-decimal-unchecked-requires
-put-decimal-unchecked-requires c κs = search needs
-
--- src/print.rt:25:1
-same-length : tie.Need-same-length
-same-length c = search needs
-
--- src/print.rt:25:1
 returns : tie.Need-returns
-returns c = ?
+returns c =
+    let a = c .before .before .before .before .before .before .before .before .before .before .args in
+    let all = put-then (a .at) (a .word .now) (decimal (a .n)) (a .out .now) (c .before .before .before .before .before .before .put-bytes-unchecked .ensures) (c .before .before .put-decimal-unchecked .ensures) in
+    (all, omega (arith, all .1, length-append (a .word .now) (decimal (a .n)), decimal-length 3 (a .n) (omega arith)))
 
 pub put-named-spec : {M : Type 1} → statement M
-put-named-spec =
-    tie.close
-    (tie.spec put-bytes-unchecked-requires put-decimal-unchecked-requires same-length returns)
+put-named-spec = tie.close (tie.spec (search needs) (search needs) (search needs) returns)
