@@ -15,7 +15,7 @@ use Rattle.decided.specs.declared.EdgeRun.{EdgeRun}
 use Rattle.geometry.specs.Coordinates.{shr}
 use Rattle.geometry.specs.declared.Pass.{Pass}
 use Rattle.geometry.specs.declared.Superblock.{Superblock}
-use Rattle.order.specs.Grid.{keep-if, select, strip, strips, grid, strip-split, strips-split, grid-length}
+use Rattle.order.specs.Grid.{keep-if, select, strip, grid, strip-split, strips-split, grid-length}
 use Rattle.positions.specs.Positions.{sub, alongSub, edgeCount}
 use Rattle.text.specs.Text.{Put}
 use Rattle.text.specs.TextLaws.{written-none, written-length, put-then}

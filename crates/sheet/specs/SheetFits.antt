@@ -2,8 +2,8 @@
 -- Assumes nothing.
 use mathlib.Core.Path.{_≡_, refl}
 use mathlib.Core.Bool.{Bool, true, false, not, _||_}
-use mathlib.Core.List.{List, [], _∷_, _++_, List·Memᴰ, List·Memᴰ·head, List·Memᴰ·tail}
-use Prim.Native.Nat.{ℕ, _+_, _-_, _*_, _/_, _≤_, _<_}
+use mathlib.Core.List.{List, [], _∷_, List·Memᴰ, List·Memᴰ·head, List·Memᴰ·tail}
+use Prim.Native.Nat.{ℕ, _-_, _*_, _/_, _≤_, _<_}
 use native.Mathlib.Nat.{mul-le-mul-right}
 use native.Mathlib.Omega.{arith}
 use borrow.Author.Tests.{ltb-false}
@@ -23,7 +23,7 @@ use Rattle.positions.specs.Positions.{passOf, edgeCount}
 use Rattle.positions.specs.PositionsLaws.{edge-count-small}
 use Rattle.text.specs.Text.{decimal}
 use Rattle.text.specs.TextLaws.{decimal-length}
-use Rattle.sheet.specs.HeaderLaws.{Header}
+use Rattle.sheet.specs.HeaderLaws.{Header, header-small}
 use Rattle.sheet.specs.Sheet.{headerOf, badHeader, sheetSetting, cellsRefused, sheetRuns, firstLine, runLine, runLines, refusalLine, printed, runSheet}
 use Rattle.sheet.specs.declared.header.SheetHeader.{SheetHeader}
 
@@ -70,9 +70,18 @@ refusal-length number place h k =
     let more = four-digits place k in
     simp length-append (omega arith)
 
+-- ---- what test 17 leaves: a row of at most 8,192 cells
+
+pub header-narrow : (h : SheetHeader) → badHeader h ≡ false → h .cols ≤ 1024
+unfolding badHeader
+header-narrow h e = ltb-false 1024 (h .cols) (neither (not (eqb (h .spare) 0)) e .1)
+
+pub cells-few : (row cols rows : ℕ) → cols ≤ 1024 → cellsFrom row cols rows ≤ 8192
+cells-few row cols rows h = let eight : rowsFrom row rows ≤ 8 = omega arith in omega (arith, mul-le-mul-right cols eight)
+
 -- ---- outcomes: what is known of a result, and that the numbers of a refusal are small
 
-abbrev pub Known : {A : Type 0} → (A → Type 0) → Outcome A → Type 0
+abbrev Known : {A : Type 0} → (A → Type 0) → Outcome A → Type 0
 Known Q (accepted a) = Q a
 Known Q (refused number place) = (number < 100) × (place < 10000)
 
@@ -98,28 +107,20 @@ module _ {A : Type 0} (Q : A → Type 0) where
       no-place (ltb 2 plane || ltb 1 pass) 9 _ (omega arith) (λ t9.
       no-place (badStart col miCols) 10 _ (omega arith) (λ t10. known))))))))
 
-  -- 17 comes before 11, so a row has at most 8,192 cells
-  pub cells-known : (bytes : List ℕ) (after : Outcome A) → badHeader (headerOf bytes) ≡ false → Known Q after → Known Q (cellsRefused bytes after)
-  unfolding badHeader
-  cells-known bytes after e known =
+  cells-known : (bytes : List ℕ) (after : Outcome A) → headerOf bytes .cols ≤ 1024 → Known Q after → Known Q (cellsRefused bytes after)
+  cells-known bytes after narrow known =
       let h = headerOf bytes in
       let t = sheetSetting bytes in
       let n = cellsFrom (h .row) (h .cols) (h .rows) in
+      let cell = badCell (t .cells) in
       let level = levelless (t .superblock) (passOf (h .pass)) (t .chroma) (t .cells) in
       let edges = edgeCount (t .superblock) (passOf (h .pass)) in
-      let narrow = ltb-false 1024 (h .cols) (neither (not (eqb (h .spare) 0)) e .1) in
-      refuse-known (found (badCell (t .cells)) n) 11 _ _ (λ p. (omega arith, near (h .row) (h .rows) narrow (first-is (badCell (t .cells)) n p .to))) (λ t11.
+      refuse-known (found cell n) 11 _ _ (λ e. (omega arith, omega (arith, first-is cell n e .to, cells-few (h .row) (h .cols) (h .rows) narrow))) (λ t11.
       refuse-known (found level (64 * edges)) 14 _ after
-      (λ p. (omega arith, omega (arith, first-is level (64 * edges) p .to, edge-count-small (t .superblock) (passOf (h .pass))))) (λ t14. known))
-    where
-      near : (row rows : ℕ) {cols k : ℕ} → cols ≤ 1024 → k < 0 + cellsFrom row cols rows → k < 10000
-      near row rows {cols} l p = let eight : rowsFrom row rows ≤ 8 = omega arith in omega (arith, mul-le-mul-right cols eight)
+      (λ e. (omega arith, omega (arith, first-is level (64 * edges) e .to, edge-count-small (t .superblock) (passOf (h .pass)))))
+      (λ t14. known))
 
 -- ---- sheets
-
-header-small : (bytes : List ℕ) → Header (headerOf bytes)
-unfolding headerOf
-header-small bytes = record { plane = omega arith; pass = omega arith; row = omega arith; col = omega arith }
 
 abbrev Few : List EdgeRun → Type 0
 Few l = (length l ≤ 128) × ((a : EdgeRun) → List·Memᴰ a l → Small a)
@@ -132,7 +133,7 @@ sheet-known bytes =
     no-place Few (ltb (length bytes) 8) 7 _ (omega arith) (λ t7.
     no-place Few (badHeader h) 17 _ (omega arith) (λ t17.
     numbers-known Few (h .sharpness) (h .depth) (h .subx) (h .suby) (h .cols) (h .rows) (h .row) (h .col) (h .plane) (h .pass) ((length bytes - 8) / 4) _
-    (cells-known Few bytes _ t17 (runs-count t (passOf (h .pass)), runs-small t (passOf (h .pass))))))
+    (cells-known Few bytes _ (header-narrow h t17) (runs-count t (passOf (h .pass)), runs-small t (passOf (h .pass))))))
 
 pub sheet-fits : (bytes : List ℕ) → length (runSheet bytes) ≤ 2048
 unfolding runSheet

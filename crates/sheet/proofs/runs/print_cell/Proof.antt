@@ -4,12 +4,6 @@ use Rattle.decided.specs.JoinLaws.{joins-true}
 use Rattle.sheet.specs.PrintLaws.{fed-joins, fed-parts}
 use Rattle.sheet.proofs.runs.print_cell.Statement.{statement}
 use Rattle.sheet.proofs.runs.print_cell.Tie as tie
-use Rattle.sheet.proofs.runs.print_cell.Reads as reads
-use Rattle.sheet.proofs.runs.print_cell.Lts as lts
-use Rattle.decided.proofs.cell_run_unchecked.Reads as cell-run-unchecked-reads
-use Rattle.decided.proofs.joins_unchecked.Reads as joins-unchecked-reads
-use Rattle.decided.proofs.longer_unchecked.Reads as longer-unchecked-reads
-use Rattle.sheet.proofs.runs.print_pending.Reads as print-pending-reads
 
 longer-unchecked-requires : tie.Need-longer-unchecked-requires
 longer-unchecked-requires c κs =

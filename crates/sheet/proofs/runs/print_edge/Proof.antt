@@ -7,9 +7,6 @@ use Rattle.order.specs.Grid.{strip}
 use Rattle.sheet.specs.PrintLaws.{Fed, fed-none, fed-length, fed-strip, strip-near}
 use Rattle.sheet.proofs.runs.print_edge.Statement.{statement}
 use Rattle.sheet.proofs.runs.print_edge.Tie as tie
-use Rattle.sheet.proofs.runs.print_edge.Reads as reads
-use Rattle.sheet.proofs.runs.print_edge.Lts as lts
-use Rattle.sheet.proofs.runs.print_cell.Reads as print-cell-reads
 
 abbrev Inv-loop : tie.InvT-loop
 Inv-loop out₀ cells s pass chroma edge p₀ c₀ out p c = (c ≤ 8) × Fed (strip (cellRun s pass chroma cells) edge 0 c) p₀ out₀ out p

@@ -2,9 +2,6 @@ use borrow.Author.Needs.{needs}
 use Rattle.sheet.specs.PrintLaws.{pending-filters, pending-none}
 use Rattle.sheet.proofs.runs.print_pending.Statement.{statement}
 use Rattle.sheet.proofs.runs.print_pending.Tie as tie
-use Rattle.sheet.proofs.runs.print_pending.Reads as reads
-use Rattle.sheet.proofs.runs.print_pending.Lts as lts
-use Rattle.sheet.proofs.print.print_run.Reads as print-run-reads
 
 returns : tie.Need-returns
 returns c =

@@ -8,12 +8,6 @@ use Rattle.positions.specs.Positions.{edgeCount}
 use Rattle.sheet.specs.PrintLaws.{Fed, fed-none, fed-length, fed-grid, grid-near, fed-all}
 use Rattle.sheet.proofs.runs.print_runs.Statement.{statement}
 use Rattle.sheet.proofs.runs.print_runs.Tie as tie
-use Rattle.sheet.proofs.runs.print_runs.Reads as reads
-use Rattle.sheet.proofs.runs.print_runs.Lts as lts
-use Rattle.positions.proofs.edge_count.Reads as edge-count-reads
-use Rattle.sheet.proofs.runs.no_run.Reads as no-run-reads
-use Rattle.sheet.proofs.runs.print_edge.Reads as print-edge-reads
-use Rattle.sheet.proofs.runs.print_pending.Reads as print-pending-reads
 
 abbrev Inv-loop : tie.InvT-loop
 Inv-loop out₀ at cells s pass chroma p₀ edge₀ edge-end out p edge = (edge ≤ edge-end) × Fed (grid (cellRun s pass chroma cells) edge 8) p₀ out₀ out p
