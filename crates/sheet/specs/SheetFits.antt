@@ -24,7 +24,7 @@ use Rattle.positions.specs.PositionsLaws.{edge-count-small}
 use Rattle.text.specs.Text.{decimal}
 use Rattle.text.specs.TextLaws.{decimal-length}
 use Rattle.sheet.specs.HeaderLaws.{Header, header-small}
-use Rattle.sheet.specs.Sheet.{headerOf, badHeader, sheetSetting, cellsRefused, sheetRuns, firstLine, runLine, runLines, refusalLine, printed, runSheet}
+use Rattle.sheet.specs.Sheet.{headerOf, badHeader, sheetSetting, cellsRuns, cellsOf, sheetRuns, firstLine, runLine, runLines, refusalLine, printed, runSheet}
 use Rattle.sheet.specs.declared.header.SheetHeader.{SheetHeader}
 
 -- ---- lines
@@ -79,70 +79,66 @@ header-narrow h e = ltb-false 1024 (h .cols) (neither (not (eqb (h .spare) 0)) e
 pub cells-few : (row cols rows : ℕ) → cols ≤ 1024 → cellsFrom row cols rows ≤ 8192
 cells-few row cols rows h = let eight : rowsFrom row rows ≤ 8 = omega arith in omega (arith, mul-le-mul-right cols eight)
 
--- ---- outcomes: what is known of a result, and that the numbers of a refusal are small
+-- ---- outcomes: runs are few and small, and so are the numbers of a refusal
 
-abbrev Known : {A : Type 0} → (A → Type 0) → Outcome A → Type 0
-Known Q (accepted a) = Q a
-Known Q (refused number place) = (number < 100) × (place < 10000)
+abbrev Tame : Outcome (List EdgeRun) → Type 0
+Tame (accepted l) = (length l ≤ 128) × ((a : EdgeRun) → List·Memᴰ a l → Small a)
+Tame (refused number place) = (number < 100) × (place < 10000)
 
-module _ {A : Type 0} (Q : A → Type 0) where
-  refuse-known : (test : Bool) (number place : ℕ) (after : Outcome A)
-      → (test ≡ true → (number < 100) × (place < 10000)) → (test ≡ false → Known Q after) → Known Q (refuse test number place after)
-  refuse-known true number place after p q = p refl
-  refuse-known false number place after p q = q refl
+refuse-tame : (test : Bool) (number place : ℕ) (after : Outcome (List EdgeRun))
+    → (test ≡ true → Tame (refused number place)) → (test ≡ false → Tame after) → Tame (refuse test number place after)
+refuse-tame true number place after p q = p refl
+refuse-tame false number place after p q = q refl
 
-  -- most refusals have no place
-  no-place : (test : Bool) (number : ℕ) (after : Outcome A) → number < 100 → (test ≡ false → Known Q after) → Known Q (refuse test number 0 after)
-  no-place test number after h q = refuse-known test number 0 after (λ e. (h, omega arith)) q
+-- most refusals have no place
+no-place : (test : Bool) (number : ℕ) (after : Outcome (List EdgeRun)) → number < 100 → (test ≡ false → Tame after) → Tame (refuse test number 0 after)
+no-place test number after h q = refuse-tame test number 0 after (λ e. (h, omega arith)) q
 
-  numbers-known : (sharpness depth subX subY miCols miRows row col plane pass cellsLent : ℕ) (after : Outcome A) → Known Q after
-      → Known Q (numbersRefused sharpness depth subX subY miCols miRows row col plane pass cellsLent after)
-  numbers-known sharpness depth subX subY miCols miRows row col plane pass cellsLent after known =
-      no-place (ltb 7 sharpness) 1 _ (omega arith) (λ t1.
-      no-place (not (supported depth)) 2 _ (omega arith) (λ t2.
-      no-place (badSubsampling subX subY) 3 _ (omega arith) (λ t3.
-      no-place (badFrameSize miCols miRows) 4 _ (omega arith) (λ t4.
-      no-place (badStart row miRows) 5 _ (omega arith) (λ t5.
-      no-place (ltb cellsLent (cellsFrom row miCols miRows)) 7 _ (omega arith) (λ t7.
-      no-place (ltb 2 plane || ltb 1 pass) 9 _ (omega arith) (λ t9.
-      no-place (badStart col miCols) 10 _ (omega arith) (λ t10. known))))))))
+numbers-tame : (sharpness depth subX subY miCols miRows row col plane pass cellsLent : ℕ) (after : Outcome (List EdgeRun)) → Tame after
+    → Tame (numbersRefused sharpness depth subX subY miCols miRows row col plane pass cellsLent after)
+numbers-tame sharpness depth subX subY miCols miRows row col plane pass cellsLent after tame =
+    no-place (ltb 7 sharpness) 1 _ (omega arith) (λ t1.
+    no-place (not (supported depth)) 2 _ (omega arith) (λ t2.
+    no-place (badSubsampling subX subY) 3 _ (omega arith) (λ t3.
+    no-place (badFrameSize miCols miRows) 4 _ (omega arith) (λ t4.
+    no-place (badStart row miRows) 5 _ (omega arith) (λ t5.
+    no-place (ltb cellsLent (cellsFrom row miCols miRows)) 7 _ (omega arith) (λ t7.
+    no-place (ltb 2 plane || ltb 1 pass) 9 _ (omega arith) (λ t9.
+    no-place (badStart col miCols) 10 _ (omega arith) (λ t10. tame))))))))
 
-  cells-known : (bytes : List ℕ) (after : Outcome A) → headerOf bytes .cols ≤ 1024 → Known Q after → Known Q (cellsRefused bytes after)
-  cells-known bytes after narrow known =
-      let h = headerOf bytes in
-      let t = sheetSetting bytes in
-      let n = cellsFrom (h .row) (h .cols) (h .rows) in
-      let cell = badCell (t .cells) in
-      let level = levelless (t .superblock) (passOf (h .pass)) (t .chroma) (t .cells) in
-      let edges = edgeCount (t .superblock) (passOf (h .pass)) in
-      refuse-known (found cell n) 11 _ _ (λ e. (omega arith, omega (arith, first-is cell n e .to, cells-few (h .row) (h .cols) (h .rows) narrow))) (λ t11.
-      refuse-known (found level (64 * edges)) 14 _ after
-      (λ e. (omega arith, omega (arith, first-is level (64 * edges) e .to, edge-count-small (t .superblock) (passOf (h .pass)))))
-      (λ t14. known))
+cells-tame : (h : SheetHeader) (cells : List ℕ) → h .cols ≤ 1024 → Tame (cellsRuns h cells)
+unfolding cellsRuns
+cells-tame h cells narrow =
+    let t = sheetSetting h cells in
+    let pass = passOf (h .pass) in
+    let n = cellsFrom (h .row) (h .cols) (h .rows) in
+    let level = levelless (t .superblock) pass (t .chroma) cells in
+    let edges = edgeCount (t .superblock) pass in
+    refuse-tame (found (badCell cells) n) 11 _ _
+    (λ e. (omega arith, omega (arith, first-is (badCell cells) n e .to, cells-few (h .row) (h .cols) (h .rows) narrow))) (λ t11.
+    refuse-tame (found level (64 * edges)) 14 _ _
+    (λ e. (omega arith, omega (arith, first-is level (64 * edges) e .to, edge-count-small (t .superblock) pass)))
+    (λ t14. (runs-count t pass, runs-small t pass)))
 
 -- ---- sheets
 
-abbrev Few : List EdgeRun → Type 0
-Few l = (length l ≤ 128) × ((a : EdgeRun) → List·Memᴰ a l → Small a)
-
-sheet-known : (bytes : List ℕ) → Known Few (sheetRuns bytes)
+sheet-tame : (bytes : List ℕ) → Tame (sheetRuns bytes)
 unfolding sheetRuns
-sheet-known bytes =
+sheet-tame bytes =
     let h = headerOf bytes in
-    let t = sheetSetting bytes in
-    no-place Few (ltb (length bytes) 8) 7 _ (omega arith) (λ t7.
-    no-place Few (badHeader h) 17 _ (omega arith) (λ t17.
-    numbers-known Few (h .sharpness) (h .depth) (h .subx) (h .suby) (h .cols) (h .rows) (h .row) (h .col) (h .plane) (h .pass) ((length bytes - 8) / 4) _
-    (cells-known Few bytes _ (header-narrow h t17) (runs-count t (passOf (h .pass)), runs-small t (passOf (h .pass))))))
+    no-place (ltb (length bytes) 8) 7 _ (omega arith) (λ t7.
+    no-place (badHeader h) 17 _ (omega arith) (λ t17.
+    numbers-tame (h .sharpness) (h .depth) (h .subx) (h .suby) (h .cols) (h .rows) (h .row) (h .col) (h .plane) (h .pass) ((length bytes - 8) / 4) _
+    (cells-tame h (cellsOf bytes) (header-narrow h t17))))
 
 pub sheet-fits : (bytes : List ℕ) → length (runSheet bytes) ≤ 2048
 unfolding runSheet
-sheet-fits bytes = by (sheetRuns bytes) (sheet-known bytes)
+sheet-fits bytes = by (sheetRuns bytes) (sheet-tame bytes)
   where
-    by : (o : Outcome (List EdgeRun)) → Known Few o → length (printed (headerOf bytes) o) ≤ 2048
-    by (accepted l) few =
-        omega (arith, length-append (firstLine (headerOf bytes)) (runLines l), first-length (headerOf bytes) (header-small bytes), lines-length l (few .1))
-    by (refused number place) small = omega (arith, refusal-length number place (small .0) (small .1))
+    by : (o : Outcome (List EdgeRun)) → Tame o → length (printed (headerOf bytes) o) ≤ 2048
+    by (accepted l) tame =
+        omega (arith, length-append (firstLine (headerOf bytes)) (runLines l), first-length (headerOf bytes) (header-small bytes), lines-length l (tame .1))
+    by (refused number place) tame = omega (arith, refusal-length number place (tame .0) (tame .1))
 
 pub sheet-some : (bytes : List ℕ) → 0 < length (runSheet bytes)
 unfolding runSheet firstLine refusalLine
