@@ -1,15 +1,15 @@
 // The runs of a pass, printed as they are joined.
 ghost use mathlib.Core.Path.{_≡_};
+ghost use mathlib.Core.List.{_∷_, []};
 ghost use Prim.Native.Nat.{_+_, _≤_, _<_};
 ghost use lib.ListN.{length};
 ghost use Rattle.decided.specs.Runs.{cellRun, runs};
 ghost use Rattle.decided.specs.RunsLaws.{Small};
 ghost use Rattle.geometry.specs.Frame.{cellsFrom};
 ghost use Rattle.order.specs.Grid.{strip};
-ghost use Rattle.order.specs.Order.{run};
 ghost use Rattle.positions.specs.Positions.{Placed, edgeCount};
 ghost use Rattle.text.specs.Text.{Put};
-ghost use Rattle.sheet.specs.PrintLaws.{pendingText, addedText, grown, feed, begun};
+ghost use Rattle.sheet.specs.PrintLaws.{pendingText, Fed};
 ghost use Rattle.sheet.specs.Sheet.{runLines};
 use crate::print::print_run;
 use decided::EdgeRun;
@@ -48,7 +48,7 @@ fn print_cell(
     c: usize,
 ) -> Printed
     requires { ⌜ (p .at ≤ 32768) × Small (p .pending) × Placed s × (edge < edgeCount s pass) × (c < 8) × (cellsFrom (s .row) (s .cols) (s .rows) ≤ length (now cells)) ⌝ }
-    ensures { λ r. ⌜ Put (p .at) (addedText (p .pending) (cellRun s pass chroma (now (cells .entry)) edge c)) (now (out .entry)) (now (out .exit)) (r .at) × (r .pending ≡ grown (p .pending) (cellRun s pass chroma (now (cells .entry)) edge c)) × Small (r .pending) × (r .at ≤ p .at + 15) ⌝ }
+    ensures { λ r. ⌜ Fed (cellRun s pass chroma (now (cells .entry)) edge c ∷ []) p (now (out .entry)) (now (out .exit)) r ⌝ }
 {
     let pending = p.pending;
     let next = cell_run_unchecked(cells, s, pass, chroma, edge, c);
@@ -74,7 +74,7 @@ fn print_edge(
     edge: usize,
 ) -> Printed
     requires { ⌜ (start .at ≤ 16384) × Small (start .pending) × Placed s × (edge < edgeCount s pass) × (cellsFrom (s .row) (s .cols) (s .rows) ≤ length (now cells)) ⌝ }
-    ensures { λ r. ⌜ Put (start .at) (run feed (strip (cellRun s pass chroma (now (cells .entry))) edge 0 8) (begun (start .pending)) .text) (now (out .entry)) (now (out .exit)) (r .at) × (r .pending ≡ run feed (strip (cellRun s pass chroma (now (cells .entry))) edge 0 8) (begun (start .pending)) .pending) × Small (r .pending) × (r .at ≤ start .at + 120) ⌝ }
+    ensures { λ r. ⌜ Fed (strip (cellRun s pass chroma (now (cells .entry))) edge 0 8) start (now (out .entry)) (now (out .exit)) r ⌝ }
 {
     let mut p = start;
     for c in 0..8 {
@@ -85,7 +85,7 @@ fn print_edge(
 
 // The run that stands before the first cell: it joins with none.
 fn no_run() -> EdgeRun
-    ensures { λ r. ⌜ Small r × (r .first ≡ 1) × (r .level ≡ 0) ⌝ }
+    ensures { λ r. ⌜ Small r × (0 < r .first) × (r .level ≡ 0) ⌝ }
 {
     EdgeRun {
         edge: 0,

@@ -1,0 +1,149 @@
+-- How long the text of a run sheet is: at least 1 and at most 2,048 bytes, whatever the sheet holds.
+-- Assumes nothing.
+use mathlib.Core.Path.{_≡_, refl}
+use mathlib.Core.Bool.{Bool, true, false, not, _||_}
+use mathlib.Core.List.{List, [], _∷_, List·Memᴰ, List·Memᴰ·head, List·Memᴰ·tail}
+use Prim.Native.Nat.{ℕ, _-_, _*_, _/_, _≤_, _<_}
+use native.Mathlib.Nat.{mul-le-mul-right}
+use native.Mathlib.Omega.{arith}
+use borrow.Author.Tests.{ltb-false}
+use lib.Dec.{eqb, ltb}
+use lib.ListN.{length, length-append}
+use Rattle.base.specs.Depth.{supported}
+use Rattle.base.specs.First.{found, first-is}
+use Rattle.base.specs.Outcome.{Outcome, accepted, refused, refuse}
+use Rattle.base.specs.Tests.{neither}
+use Rattle.cells.specs.Cell.{badCell}
+use Rattle.decided.specs.RunsLaws.{Small, runs-small, runs-count}
+use Rattle.decided.specs.declared.EdgeRun.{EdgeRun}
+use Rattle.edges.specs.Decision.{levelless}
+use Rattle.geometry.specs.Frame.{badSubsampling, badFrameSize, badStart, rowsFrom, cellsFrom}
+use Rattle.pass.specs.Pass.{numbersRefused}
+use Rattle.positions.specs.Positions.{passOf, edgeCount}
+use Rattle.positions.specs.PositionsLaws.{edge-count-small}
+use Rattle.text.specs.Text.{decimal}
+use Rattle.text.specs.TextLaws.{decimal-length}
+use Rattle.sheet.specs.HeaderLaws.{Header, header-small}
+use Rattle.sheet.specs.Sheet.{headerOf, badHeader, sheetSetting, cellsRuns, cellsOf, sheetRuns, firstLine, runLine, runLines, refusalLine, printed, runSheet}
+use Rattle.sheet.specs.declared.header.SheetHeader.{SheetHeader}
+
+-- ---- lines
+
+one-digit : (n : ℕ) → n < 10 → length (decimal n) ≤ 1
+one-digit n h = decimal-length 0 n h
+
+two-digits : (n : ℕ) → n < 100 → length (decimal n) ≤ 2
+two-digits n h = decimal-length 1 n h
+
+four-digits : (n : ℕ) → n < 10000 → length (decimal n) ≤ 4
+four-digits n h = decimal-length 3 n h
+
+first-length : (h : SheetHeader) → Header h → length (firstLine h) ≤ 33
+unfolding firstLine
+first-length h k =
+    let pass = one-digit (h .pass) (omega arith) in
+    let plane = one-digit (h .plane) (omega arith) in
+    let row = four-digits (h .row) (omega arith) in
+    let col = four-digits (h .col) (omega arith) in
+    simp length-append (omega arith)
+
+run-length : (a : EdgeRun) → Small a → length (runLine a) ≤ 14
+unfolding runLine
+run-length a k =
+    let edge = two-digits (a .edge) (omega arith) in
+    let first = two-digits (a .first) (omega arith) in
+    let count = two-digits (a .count) (omega arith) in
+    let size = one-digit (a .size) (omega arith) in
+    let level = two-digits (a .level) (omega arith) in
+    simp length-append (omega arith)
+
+lines-length : (l : List EdgeRun) → ((a : EdgeRun) → List·Memᴰ a l → Small a) → length (runLines l) ≤ 14 * length l
+unfolding runLines
+lines-length [] h = omega arith
+lines-length (a ∷ l) h =
+    omega (arith, length-append (runLine a) (runLines l), run-length a (h a (List·Memᴰ·head refl)), lines-length l (λ b m. h b (List·Memᴰ·tail m)))
+
+refusal-length : (number place : ℕ) → number < 100 → place < 10000 → length (refusalLine number place) ≤ 22
+unfolding refusalLine
+refusal-length number place h k =
+    let digits = two-digits number h in
+    let more = four-digits place k in
+    simp length-append (omega arith)
+
+-- ---- what test 17 leaves: a row of at most 8,192 cells
+
+pub header-narrow : (h : SheetHeader) → badHeader h ≡ false → h .cols ≤ 1024
+unfolding badHeader
+header-narrow h e = ltb-false 1024 (h .cols) (neither (not (eqb (h .spare) 0)) e .1)
+
+pub cells-few : (row cols rows : ℕ) → cols ≤ 1024 → cellsFrom row cols rows ≤ 8192
+cells-few row cols rows h = let eight : rowsFrom row rows ≤ 8 = omega arith in omega (arith, mul-le-mul-right cols eight)
+
+-- ---- outcomes: runs are few and small, and so are the numbers of a refusal
+
+abbrev Tame : Outcome (List EdgeRun) → Type 0
+Tame (accepted l) = (length l ≤ 128) × ((a : EdgeRun) → List·Memᴰ a l → Small a)
+Tame (refused number place) = (number < 100) × (place < 10000)
+
+refuse-tame : (test : Bool) (number place : ℕ) (after : Outcome (List EdgeRun))
+    → (test ≡ true → Tame (refused number place)) → (test ≡ false → Tame after) → Tame (refuse test number place after)
+refuse-tame true number place after p q = p refl
+refuse-tame false number place after p q = q refl
+
+-- most refusals have no place
+no-place : (test : Bool) (number : ℕ) (after : Outcome (List EdgeRun)) → number < 100 → (test ≡ false → Tame after) → Tame (refuse test number 0 after)
+no-place test number after h q = refuse-tame test number 0 after (λ e. (h, omega arith)) q
+
+numbers-tame : (sharpness depth subX subY miCols miRows row col plane pass cellsLent : ℕ) (after : Outcome (List EdgeRun)) → Tame after
+    → Tame (numbersRefused sharpness depth subX subY miCols miRows row col plane pass cellsLent after)
+numbers-tame sharpness depth subX subY miCols miRows row col plane pass cellsLent after tame =
+    no-place (ltb 7 sharpness) 1 _ (omega arith) (λ t1.
+    no-place (not (supported depth)) 2 _ (omega arith) (λ t2.
+    no-place (badSubsampling subX subY) 3 _ (omega arith) (λ t3.
+    no-place (badFrameSize miCols miRows) 4 _ (omega arith) (λ t4.
+    no-place (badStart row miRows) 5 _ (omega arith) (λ t5.
+    no-place (ltb cellsLent (cellsFrom row miCols miRows)) 7 _ (omega arith) (λ t7.
+    no-place (ltb 2 plane || ltb 1 pass) 9 _ (omega arith) (λ t9.
+    no-place (badStart col miCols) 10 _ (omega arith) (λ t10. tame))))))))
+
+cells-tame : (h : SheetHeader) (cells : List ℕ) → h .cols ≤ 1024 → Tame (cellsRuns h cells)
+unfolding cellsRuns
+cells-tame h cells narrow =
+    let t = sheetSetting h cells in
+    let pass = passOf (h .pass) in
+    let n = cellsFrom (h .row) (h .cols) (h .rows) in
+    let level = levelless (t .superblock) pass (t .chroma) cells in
+    let edges = edgeCount (t .superblock) pass in
+    refuse-tame (found (badCell cells) n) 11 _ _
+    (λ e. (omega arith, omega (arith, first-is (badCell cells) n e .to, cells-few (h .row) (h .cols) (h .rows) narrow))) (λ t11.
+    refuse-tame (found level (64 * edges)) 14 _ _
+    (λ e. (omega arith, omega (arith, first-is level (64 * edges) e .to, edge-count-small (t .superblock) pass)))
+    (λ t14. (runs-count t pass, runs-small t pass)))
+
+-- ---- sheets
+
+sheet-tame : (bytes : List ℕ) → Tame (sheetRuns bytes)
+unfolding sheetRuns
+sheet-tame bytes =
+    let h = headerOf bytes in
+    no-place (ltb (length bytes) 8) 7 _ (omega arith) (λ t7.
+    no-place (badHeader h) 17 _ (omega arith) (λ t17.
+    numbers-tame (h .sharpness) (h .depth) (h .subx) (h .suby) (h .cols) (h .rows) (h .row) (h .col) (h .plane) (h .pass) ((length bytes - 8) / 4) _
+    (cells-tame h (cellsOf bytes) (header-narrow h t17))))
+
+pub sheet-fits : (bytes : List ℕ) → length (runSheet bytes) ≤ 2048
+unfolding runSheet
+sheet-fits bytes = by (sheetRuns bytes) (sheet-tame bytes)
+  where
+    by : (o : Outcome (List EdgeRun)) → Tame o → length (printed (headerOf bytes) o) ≤ 2048
+    by (accepted l) tame =
+        omega (arith, length-append (firstLine (headerOf bytes)) (runLines l), first-length (headerOf bytes) (header-small bytes), lines-length l (tame .1))
+    by (refused number place) tame = omega (arith, refusal-length number place (tame .0) (tame .1))
+
+pub sheet-some : (bytes : List ℕ) → 0 < length (runSheet bytes)
+unfolding runSheet firstLine refusalLine
+sheet-some bytes = by (sheetRuns bytes)
+  where
+    by : (o : Outcome (List EdgeRun)) → 0 < length (printed (headerOf bytes) o)
+    by (accepted l) = omega arith
+    by (refused number place) = omega arith
