@@ -198,7 +198,7 @@ module _ {A : Type 0} (mk : ℕ → ℕ → A) where
       let ih = strips-split (suc e) n m k j (omega arith) in
       rw (suc-add, append-assoc) (λ x. strip e 0 k ++ ih x)
 
-  strip-length : (e i n : ℕ) → length (strip e i n) ≡ n
+  pub strip-length : (e i n : ℕ) → length (strip e i n) ≡ n
   strip-length e i zero = refl
   strip-length e i (suc n) = ap suc (strip-length e (suc i) n)
 

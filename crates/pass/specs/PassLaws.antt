@@ -1,8 +1,8 @@
 -- Laws of the pass: what its tests leave, and what is known of a pass that was accepted.
 -- Assumes nothing.
-use mathlib.Core.Path.{_≡_, refl, sym}
+use mathlib.Core.Path.{_≡_, refl, sym, ap, _∙_}
 use mathlib.Core.Bool.{Bool, true, false, not, _||_}
-use mathlib.Core.List.{List}
+use mathlib.Core.List.{List, []}
 use Prim.Native.Nat.{ℕ, _*_, _^_, _≤_}
 use native.Mathlib.Omega.{arith}
 use lib.Dec.{ltb}
@@ -10,7 +10,7 @@ use lib.ListN.{length}
 use borrow.Author.Tests.{ltb-false, not-false}
 use Rattle.base.specs.Depth.{supported}
 use Rattle.base.specs.First.{found, first-is}
-use Rattle.base.specs.Outcome.{Outcome, accepted, refused, returned, Answers}
+use Rattle.base.specs.Outcome.{Outcome, accepted, refused, refuse, returned, Answers}
 use Rattle.base.specs.OutcomeLaws.{passed, result-is, refuse-place}
 use Rattle.edges.specs.Decision.{levelless}
 use Rattle.positions.specs.Positions.{passOf, Placed, edgeCount}
@@ -136,6 +136,43 @@ afterwards (Cell k) after = refused 11 k
 afterwards Window after = refused 12 0
 afterwards (Sample k) after = refused 13 k
 afterwards (Level k) after = refused 14 k
+
+-- the tests of the numbers come to the same whatever follows them
+abbrev andThen : {A B : Type 0} → Outcome A → Outcome B → Outcome B
+andThen (accepted a) after = after
+andThen (refused number place) after = refused number place
+
+refuse-then : {A B : Type 0} (test : Bool) (number place : ℕ) (o : Outcome A) (after : Outcome B) → andThen (refuse test number place o) after ≡ refuse test number place (andThen o after)
+refuse-then true number place o after = refl
+refuse-then false number place o after = refl
+
+afterwards-then : {A B : Type 0} (answer : PassAnswer) (a : A) (after : Outcome B) → andThen (afterwards answer (accepted a)) after ≡ afterwards answer after
+afterwards-then Done a after = refl
+afterwards-then Sharpness a after = refl
+afterwards-then Depth a after = refl
+afterwards-then Subsampling a after = refl
+afterwards-then FrameSize a after = refl
+afterwards-then Row a after = refl
+afterwards-then Short a after = refl
+afterwards-then Plane a after = refl
+afterwards-then Column a after = refl
+afterwards-then (Cell k) a after = refl
+afterwards-then Window a after = refl
+afterwards-then (Sample k) a after = refl
+afterwards-then (Level k) a after = refl
+
+pub numbers-any : {B : Type 0} (sharpness depth subX subY miCols miRows row col plane pass cellsLent : ℕ) (answer : PassAnswer)
+    → ((after : Outcome (List ℕ)) → numbersRefused sharpness depth subX subY miCols miRows row col plane pass cellsLent after ≡ afterwards answer after)
+    → (after : Outcome B) → numbersRefused sharpness depth subX subY miCols miRows row col plane pass cellsLent after ≡ afterwards answer after
+numbers-any sharpness depth subX subY miCols miRows row col plane pass cellsLent answer h after =
+    sym then ∙ ap (λ (o : Outcome (List ℕ)). andThen o after) (h none) ∙ afterwards-then answer [] after
+  where
+    none : Outcome (List ℕ)
+    none = accepted []
+
+    then : andThen (numbersRefused sharpness depth subX subY miCols miRows row col plane pass cellsLent none) after
+        ≡ numbersRefused sharpness depth subX subY miCols miRows row col plane pass cellsLent after
+    then = simp refuse-then
 
 pub done-answer : (outcome : Outcome (List ℕ)) (samples result : List ℕ) → outcome ≡ accepted result → Answers outcome (returnedOf Done) samples result
 done-answer outcome samples result e = rw e (refl, refl)

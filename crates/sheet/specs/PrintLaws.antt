@@ -15,7 +15,7 @@ use Rattle.decided.specs.declared.EdgeRun.{EdgeRun}
 use Rattle.geometry.specs.Coordinates.{shr}
 use Rattle.geometry.specs.declared.Pass.{Pass}
 use Rattle.geometry.specs.declared.Superblock.{Superblock}
-use Rattle.order.specs.Grid.{keep-if, select, strip, grid, strip-split, strips-split, grid-length}
+use Rattle.order.specs.Grid.{keep-if, select, strip, grid, strip-split, strips-split, grid-length, strip-length}
 use Rattle.positions.specs.Positions.{sub, alongSub, edgeCount}
 use Rattle.text.specs.Text.{Put}
 use Rattle.text.specs.TextLaws.{written-none, written-length, put-then}
@@ -162,13 +162,9 @@ module _ (s : Superblock) (pass : Pass) (chroma : Bool) (cells : List ℕ) where
   abbrev cellAt : (edge c : ℕ) → EdgeRun
   cellAt = cellRun s pass chroma cells
 
-  strip-length : (edge c n : ℕ) → length (strip cellAt edge c n) ≡ n
-  strip-length edge c zero = refl
-  strip-length edge c (suc n) = ap suc (strip-length edge (suc c) n)
-
   -- so many cells end so near
   pub strip-near : (edge c : ℕ) {p q : Printed} {before after : List ℕ} → Fed (strip cellAt edge 0 c) p before after q → q .at ≤ p .at + 15 * c
-  strip-near edge c f = omega (arith, f .near, strip-length edge 0 c)
+  strip-near edge c f = omega (arith, f .near, strip-length cellAt edge 0 c)
 
   pub grid-near : (edges : ℕ) {p q : Printed} {before after : List ℕ} → Fed (grid cellAt edges 8) p before after q → q .at ≤ p .at + 120 * edges
   grid-near edges f = omega (arith, f .near, grid-length cellAt edges 8)

@@ -81,7 +81,7 @@ cells-few row cols rows h = let eight : rowsFrom row rows ≤ 8 = omega arith in
 
 -- ---- outcomes: runs are few and small, and so are the numbers of a refusal
 
-abbrev Tame : Outcome (List EdgeRun) → Type 0
+abbrev pub Tame : Outcome (List EdgeRun) → Type 0
 Tame (accepted l) = (length l ≤ 128) × ((a : EdgeRun) → List·Memᴰ a l → Small a)
 Tame (refused number place) = (number < 100) × (place < 10000)
 
@@ -122,7 +122,7 @@ cells-tame h cells narrow =
 
 -- ---- sheets
 
-sheet-tame : (bytes : List ℕ) → Tame (sheetRuns bytes)
+pub sheet-tame : (bytes : List ℕ) → Tame (sheetRuns bytes)
 unfolding sheetRuns
 sheet-tame bytes =
     let h = headerOf bytes in
