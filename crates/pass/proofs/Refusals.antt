@@ -1,34 +1,24 @@
 -- An answer that is not Done is a refusal, and nothing has changed.
 -- Assumes nothing.
-use mathlib.Core.Path.{_≡_, refl, _∙_}
+use mathlib.Core.Path.{_≡_, refl, _∙_, subst}
+use mathlib.Core.Logic.{⊎-elim}
 use mathlib.Core.List.{List, [], _∷_}
 use Prim.Native.Nat.{ℕ}
 use types.Run.{OneOf, miss}
 use denote.Enum.Declared.{tagOf}
 use Rattle.base.specs.Outcome.{Outcome, refused, Returned, Answers}
 use Rattle.pass.specs.Pass.{returnedOf}
-use Rattle.pass.specs.PassLaws.{afterwards}
+use Rattle.pass.specs.PassLaws.{afterwards, done-or-refused}
 use Rattle.pass.specs.declared.PassAnswer.{PassAnswer}
-use Rattle.pass.specs.declared.PassAnswer.the-variants.{Done, Sharpness, Depth, Subsampling, FrameSize, Row, Short, Plane, Column, Cell, Window, Sample, Level}
+use Rattle.pass.specs.declared.PassAnswer.the-variants.{Done}
 use Rattle.pass.proofs.PassAnswer.{the-type}
 
 abbrev refusals : List ℕ
 refusals = 1 ∷ 2 ∷ 3 ∷ 4 ∷ 5 ∷ 6 ∷ 7 ∷ 8 ∷ 9 ∷ 10 ∷ 11 ∷ 12 ∷ []
 
-pub not-done : {A : Type 0} (answer : PassAnswer) → OneOf refusals (tagOf the-type answer) → (after : Outcome A) → afterwards answer after ≡ refused (returnedOf answer .number) (returnedOf answer .place)
-not-done Done k after = absurd (miss refusals 0 tt k)
-not-done Sharpness k after = refl
-not-done Depth k after = refl
-not-done Subsampling k after = refl
-not-done FrameSize k after = refl
-not-done Row k after = refl
-not-done Short k after = refl
-not-done Plane k after = refl
-not-done Column k after = refl
-not-done (Cell place) k after = refl
-not-done Window k after = refl
-not-done (Sample place) k after = refl
-not-done (Level place) k after = refl
+not-done : {A : Type 0} (answer : PassAnswer) → OneOf refusals (tagOf the-type answer) → (after : Outcome A) → afterwards answer after ≡ refused (returnedOf answer .number) (returnedOf answer .place)
+not-done answer k after =
+    ⊎-elim (λ (d : answer ≡ Done). absurd (miss refusals 0 tt (subst (λ (a : PassAnswer). OneOf refusals (tagOf the-type a)) d k))) (λ e. e) (done-or-refused answer after)
 
 pub refused-answer : (answer : PassAnswer) → OneOf refusals (tagOf the-type answer) → (outcome : Outcome (List ℕ)) (samples : List ℕ) (after : Outcome (List ℕ))
     → outcome ≡ afterwards answer after → Answers outcome (returnedOf answer) samples samples

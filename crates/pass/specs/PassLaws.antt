@@ -1,6 +1,7 @@
 -- Laws of the pass: what its tests leave, and what is known of a pass that was accepted.
 -- Assumes nothing.
 use mathlib.Core.Path.{_≡_, refl, sym, ap, _∙_}
+use mathlib.Core.Logic.{_⊎_, inl, inr}
 use mathlib.Core.Bool.{Bool, true, false, not, _||_}
 use mathlib.Core.List.{List, []}
 use Prim.Native.Nat.{ℕ, _*_, _^_, _≤_}
@@ -136,6 +137,22 @@ afterwards (Cell k) after = refused 11 k
 afterwards Window after = refused 12 0
 afterwards (Sample k) after = refused 13 k
 afterwards (Level k) after = refused 14 k
+
+-- an answer that is not Done is a refusal, with its number and place
+pub done-or-refused : {A : Type 0} (answer : PassAnswer) (after : Outcome A) → (answer ≡ Done) ⊎ (afterwards answer after ≡ refused (returnedOf answer .number) (returnedOf answer .place))
+done-or-refused Done after = inl refl
+done-or-refused Sharpness after = inr refl
+done-or-refused Depth after = inr refl
+done-or-refused Subsampling after = inr refl
+done-or-refused FrameSize after = inr refl
+done-or-refused Row after = inr refl
+done-or-refused Short after = inr refl
+done-or-refused Plane after = inr refl
+done-or-refused Column after = inr refl
+done-or-refused (Cell k) after = inr refl
+done-or-refused Window after = inr refl
+done-or-refused (Sample k) after = inr refl
+done-or-refused (Level k) after = inr refl
 
 -- the tests of the numbers come to the same whatever follows them
 abbrev andThen : {A B : Type 0} → Outcome A → Outcome B → Outcome B

@@ -3,3 +3,4 @@ pub mod HeaderLaws
 pub mod PrintLaws
 pub mod SheetAnswers
 pub mod SheetFits
+pub mod SheetLaws

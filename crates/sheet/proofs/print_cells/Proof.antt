@@ -1,110 +1,107 @@
 use borrow.Author.Needs.{needs}
+use mathlib.Core.Bool.{true, false}
+use mathlib.Core.List.{List, []}
+use mathlib.Core.Path.{_≡_, sym, _∙_}
+use Prim.Native.Nat.{ℕ, _*_, _<_}
+use native.Mathlib.Omega.{arith}
+use Rattle.base.specs.First.{found, first, first-is}
+use Rattle.base.specs.FirstLaws.{first-below, first-past}
+use Rattle.cells.specs.Cell.{badCell}
+use Rattle.positions.specs.Positions.{passOf, edgeCount}
+use Rattle.positions.specs.PositionsLaws.{edge-count-small}
+use Rattle.sheet.specs.Sheet.{sheetSetting}
+use Rattle.sheet.specs.SheetFits.{cells-few}
+use Rattle.sheet.specs.SheetLaws.{cellCount, gridPlaces, levellessAt, cells-bad, cells-without, cells-good}
+use Rattle.sheet.specs.declared.header.SheetHeader.{SheetHeader}
+use Rattle.text.specs.TextLaws.{put-then}
 use Rattle.sheet.proofs.print_cells.Statement.{statement}
 use Rattle.sheet.proofs.print_cells.Tie as tie
-use Rattle.sheet.proofs.print_cells.Reads as reads
-use Rattle.sheet.proofs.print_cells.Lts as lts
-use Rattle.cells.proofs.any_bad_word_unchecked.Reads as any-bad-word-unchecked-reads
-use Rattle.cells.proofs.first_bad_word_unchecked.Reads as first-bad-word-unchecked-reads
-use Rattle.edges.proofs.decision.first_levelless_unchecked.Reads as first-levelless-unchecked-reads
-use Rattle.geometry.proofs.cell_count_unchecked.Reads as cell-count-unchecked-reads
-use Rattle.positions.proofs.edge_count.Reads as edge-count-reads
-use Rattle.positions.proofs.pass_of.Reads as pass-of-reads
-use Rattle.sheet.proofs.print.print_first.Reads as print-first-reads
-use Rattle.sheet.proofs.print.print_refusal.Reads as print-refusal-reads
-use Rattle.sheet.proofs.runs.print_runs.Reads as print-runs-reads
-use Rattle.sheet.proofs.superblock_of.Reads as superblock-of-reads
 
--- src/lib.rt:62:9
-cell-count-unchecked-requires : tie.Need-cell-count-unchecked-requires
-cell-count-unchecked-requires c κs = search needs
+abbrev cells : tie.Start → List ℕ
+cells c = c .args .cells .now
 
--- src/lib.rt:63:8
-any-bad-word-unchecked-requires : tie.Need-any-bad-word-unchecked-requires
-any-bad-word-unchecked-requires c κs = search needs
+-- whether a word is bad
+any : (c : tie.After-any-bad-word-unchecked) → c .any-bad-word-unchecked .result ≡ found (badCell (cells (c .before .before .before .before))) (cellCount (c .before .before .before .before .args .h))
+any c = rw (c .before .cell-count-unchecked .ensures) at (c .any-bad-word-unchecked .ensures)
 
--- src/lib.rt:64:39
-first-bad-word-unchecked-requires : tie.Need-first-bad-word-unchecked-requires
-first-bad-word-unchecked-requires c κs = search needs
+-- where one is, its place
+bad : (c : tie.After-first-bad-word-unchecked) → found (badCell (cells (c .before .before .before .before .before .before .before))) (cellCount (c .before .before .before .before .before .before .before .args .h)) ≡ true
+bad c = sym (any (c .before .before .before)) ∙ c .before .before .if1 .taken
 
--- src/lib.rt:64:9
+bad-place : (c : tie.After-first-bad-word-unchecked) → c .first-bad-word-unchecked .result ≡ first (badCell (cells (c .before .before .before .before .before .before .before))) (cellCount (c .before .before .before .before .before .before .before .args .h))
+bad-place c = rw (c .before .before .before .before .cell-count-unchecked .ensures) at (c .first-bad-word-unchecked .ensures)
+
 print-refusal-requires : tie.Need-print-refusal-requires
-print-refusal-requires c κs = ?
+print-refusal-requires c κs =
+    let start = c .before .before .before .before .before .before .before in
+    let h = start .args .h in
+    let to = first-is (badCell (cells start)) (cellCount h) (bad c) .to in
+    (omega arith, omega (arith, bad-place c, to, cells-few (h .row) (h .cols) (h .rows) (start .pre .3)))
 
--- src/lib.rt:64:9
-same-length : tie.Need-same-length
-same-length c = search needs
-
--- src/lib.rt:64:9
 returns : tie.Need-returns
-returns c = ?
+returns c =
+    let start = c .before .before .before .before .before .before .before .before .before .before in
+    rw (cells-bad (start .args .h) (cells start) (bad (c .before .before .before)), ← bad-place (c .before .before .before)) (c .before .before .print-refusal .ensures)
 
--- src/lib.rt:66:9
-superblock-of-requires : tie.Need-superblock-of-requires
-superblock-of-requires c κs = search needs
+-- past the words: the place of the first position without level
+good : (c : tie.Else1) → found (badCell (cells (c .before .before .before .before .before))) (cellCount (c .before .before .before .before .before .args .h)) ≡ false
+good c = sym (any (c .before)) ∙ c .if1 .left
 
--- src/lib.rt:67:9
-pass-of-requires : tie.Need-pass-of-requires
-pass-of-requires c κs = search needs
-
--- src/lib.rt:69:9
 first-levelless-unchecked-requires : tie.Need-first-levelless-unchecked-requires
-first-levelless-unchecked-requires c κs = ?
+first-levelless-unchecked-requires c κs =
+    let start = c .before .before .before .before .before .before .before .before in
+    rw (c .before .before .superblock-of .ensures) (start .pre .1, start .pre .2)
 
--- src/lib.rt:70:21
-edge-count-requires : tie.Need-edge-count-requires
-edge-count-requires c κs = search needs
+place : (c : tie.After-first-levelless-unchecked) → c .first-levelless-unchecked .result ≡ first (levellessAt (c .before .before .before .before .before .before .before .before .before .args .h) (cells (c .before .before .before .before .before .before .before .before .before))) (gridPlaces (c .before .before .before .before .before .before .before .before .before .args .h))
+place c = rw (c .before .before .before .superblock-of .ensures, c .before .before .pass-of .ensures) at (c .first-levelless-unchecked .ensures)
 
--- src/lib.rt:70:16
-mul-if2 : tie.Need-mul-if2
-mul-if2 c = search needs
+edges : (c : tie.After-edge-count) → 64 * c .edge-count .result ≡ gridPlaces (c .before .before .before .before .before .before .before .before .before .before .args .h)
+edges c = rw (c .edge-count .ensures .0, c .before .before .before .before .superblock-of .ensures, c .before .before .before .pass-of .ensures)
 
--- src/lib.rt:71:9
+without : (c : tie.Then2) → found (levellessAt (c .before .before .before .before .before .before .before .before .before .before .before .args .h) (cells (c .before .before .before .before .before .before .before .before .before .before .before))) (gridPlaces (c .before .before .before .before .before .before .before .before .before .before .before .args .h)) ≡ true
+without c = first-below _ _ (rw (edges (c .before), place (c .before .before)) at (c .if2 .taken))
+
+present : (c : tie.Else2) → found (levellessAt (c .before .before .before .before .before .before .before .before .before .before .before .args .h) (cells (c .before .before .before .before .before .before .before .before .before .before .before))) (gridPlaces (c .before .before .before .before .before .before .before .before .before .before .before .args .h)) ≡ false
+present c = first-past _ _ (rw (edges (c .before), place (c .before .before)) at (c .if2 .left))
+
 print-refusal-requires-2 : tie.Need-print-refusal-requires-2
-print-refusal-requires-2 c κs = search needs
+print-refusal-requires-2 c κs = (omega arith, omega (arith, c .before .if2 .taken, c .before .before .edge-count .ensures .1))
 
--- src/lib.rt:71:9
-same-length-2 : tie.Need-same-length-2
-same-length-2 c = search needs
-
--- src/lib.rt:71:9
 returns-2 : tie.Need-returns-2
-returns-2 c = ?
+returns-2 c =
+    let start = c .before .before .before .before .before .before .before .before .before .before .before .before .before .before .before in
+    rw (cells-without (start .args .h) (cells start) (good (c .before .before .before .before .before .before .before .before .before .before)) (without (c .before .before .before .before)), ← place (c .before .before .before .before .before .before)) (c .before .before .print-refusal2 .ensures)
 
--- src/lib.rt:73:9
-print-first-requires : tie.Need-print-first-requires
-print-first-requires c κs = search needs
-
--- src/lib.rt:74:5
 print-runs-requires : tie.Need-print-runs-requires
-print-runs-requires c κs = ?
+print-runs-requires c κs =
+    let start = c .before .before .before .before .before .before .before .before .before .before .before .before .before .before .before .before in
+    (omega (arith, c .before .before .before .print-first .ensures .1), rw (c .before .before .before .before .before .before .before .before .before .before .superblock-of .ensures) (start .pre .1), rw (c .before .before .before .before .before .before .before .before .before .before .superblock-of .ensures) (start .pre .2))
 
--- src/lib.rt:58:1
-same-length-3 : tie.Need-same-length-3
-same-length-3 c = search needs
-
--- src/lib.rt:58:1
 returns-3 : tie.Need-returns-3
-returns-3 c = ?
+returns-3 c =
+    let start = c .before .before .before .before .before .before .before .before .before .before .before .before .before .before .before .before .before .before .before in
+    let lines = rw (c .before .before .before .before .before .before .before .before .before .before .before .before .before .superblock-of .ensures, c .before .before .before .before .before .before .before .before .before .before .before .before .pass-of .ensures) at (c .before .before .print-runs .ensures) in
+    rw (cells-good (start .args .h) (cells start) (good (c .before .before .before .before .before .before .before .before .before .before .before .before .before .before)) (present (c .before .before .before .before .before .before .before .before))) (put-then _ _ _ _ (c .before .before .before .before .before .before .print-first .ensures .0) lines)
 
 pub print-cells-spec : {M : Type 1} → statement M
 print-cells-spec =
     tie.close
     (tie.spec
-    cell-count-unchecked-requires
-    any-bad-word-unchecked-requires
-    first-bad-word-unchecked-requires
+    (search needs)
+    (search needs)
+    (search needs)
     print-refusal-requires
-    same-length
+    (search needs)
     returns
-    superblock-of-requires
-    pass-of-requires
+    (search needs)
+    (search needs)
     first-levelless-unchecked-requires
-    edge-count-requires
-    mul-if2
+    (search needs)
+    (search needs)
     print-refusal-requires-2
-    same-length-2
+    (search needs)
     returns-2
-    print-first-requires
+    (search needs)
     print-runs-requires
-    same-length-3
+    (search needs)
     returns-3)

@@ -1,117 +1,107 @@
 use borrow.Author.Needs.{needs}
+use mathlib.Core.Bool.{true, false}
+use mathlib.Core.List.{List, [], _∷_}
+use mathlib.Core.Logic.{⊎-elim}
+use mathlib.Core.Path.{_≡_, refl, sym, ap, _∙_, subst}
+use Prim.Native.Nat.{ℕ}
+use native.Mathlib.Omega.{arith}
+use Rattle.base.specs.Outcome.{Outcome, accepted, refused}
+use Rattle.decided.specs.declared.EdgeRun.{EdgeRun}
+use Rattle.pass.proofs.PassAnswer.{the-type}
+use types.Run.{OneOf, miss}
+use denote.Enum.Declared.{tagOf}
+use Rattle.pass.specs.Pass.{returnedOf}
+use Rattle.pass.specs.declared.PassAnswer.{PassAnswer}
+use Rattle.pass.specs.declared.PassAnswer.the-variants.{Done}
+use Rattle.pass.specs.PassLaws.{afterwards, done-or-refused, numbers-passed, numbers-any}
+use Rattle.sheet.specs.Sheet.{headerOf, badHeader, cellsOf, cellsRuns, sheetRuns}
+use Rattle.sheet.specs.SheetFits.{Tame, sheet-tame, header-narrow}
+use Rattle.sheet.specs.SheetLaws.{sheet-short, sheet-spare, sheet-rest, sheet-text}
+use Rattle.sheet.specs.declared.header.SheetHeader.{SheetHeader}
 use Rattle.sheet.proofs.print_sheet.Statement.{statement}
 use Rattle.sheet.proofs.print_sheet.Tie as tie
-use Rattle.sheet.proofs.print_sheet.Reads as reads
-use Rattle.sheet.proofs.print_sheet.Lts as lts
-use Rattle.pass.proofs.faults.number_faults.Reads as number-faults-reads
-use Rattle.pass.proofs.number_of.Reads as number-of-reads
-use Rattle.pass.proofs.place_of.Reads as place-of-reads
-use Rattle.sheet.proofs.header.bad_header.Reads as bad-header-reads
-use Rattle.sheet.proofs.header.header_of.Reads as header-of-reads
-use Rattle.sheet.proofs.print.print_refusal.Reads as print-refusal-reads
-use Rattle.sheet.proofs.print_words.Reads as print-words-reads
 
--- src/lib.rt:92:9
-print-refusal-requires : tie.Need-print-refusal-requires
-print-refusal-requires c κs = search needs
+-- the bytes of the sheet, and its header
+abbrev bytes : tie.Start → List ℕ
+bytes c = c .args .sheet .now
 
--- src/lib.rt:92:9
-same-length : tie.Need-same-length
-same-length c = search needs
-
--- src/lib.rt:92:9
 returns : tie.Need-returns
-returns c = ?
+returns c = sheet-text (bytes (c .before .before .before .before .before .before .before)) (headerOf (bytes (c .before .before .before .before .before .before .before))) refl (refused 7 0) (sheet-short (bytes (c .before .before .before .before .before .before .before)) (c .before .before .before .before .if1 .taken)) _ (c .before .before .print-refusal .ensures)
 
--- src/lib.rt:94:9
-header-of-requires : tie.Need-header-of-requires
-header-of-requires c κs = search needs
-
--- src/lib.rt:95:8
-bad-header-requires : tie.Need-bad-header-requires
-bad-header-requires c κs = search needs
-
--- src/lib.rt:96:9
-print-refusal-requires-2 : tie.Need-print-refusal-requires-2
-print-refusal-requires-2 c κs = search needs
-
--- src/lib.rt:96:9
-same-length-2 : tie.Need-same-length-2
-same-length-2 c = search needs
-
--- src/lib.rt:96:9
 returns-2 : tie.Need-returns-2
-returns-2 c = ?
+returns-2 c =
+    let h = c .before .before .before .before .before .before .header-of in
+    let spare = sheet-spare (bytes (c .before .before .before .before .before .before .before .before .before .before)) (h .result) (h .ensures) (c .before .before .before .before .before .before .before .if1 .left) (sym (c .before .before .before .before .before .bad-header .ensures) ∙ c .before .before .before .before .if2 .taken) in
+    sheet-text (bytes (c .before .before .before .before .before .before .before .before .before .before)) (h .result) (h .ensures) (refused 17 0) spare _ (c .before .before .print-refusal2 .ensures)
 
--- src/lib.rt:109:10
-sub-number-faults : tie.Need-sub-number-faults
-sub-number-faults c = search needs
+-- past the tests of the header: its numbers decide
+good : (c : tie.Else2) → badHeader (c .before .before .header-of .result) ≡ false
+good c = sym (c .before .bad-header .ensures) ∙ c .if2 .left
 
--- src/lib.rt:98:9
-number-faults-requires : tie.Need-number-faults-requires
-number-faults-requires c κs = search needs
+tested : (c : tie.After-number-faults) →
+    let h = c .before .before .before .header-of .result in
+    sheetRuns (bytes (c .before .before .before .before .before .before .before)) ≡ afterwards (c .number-faults .result) (cellsRuns h (cellsOf (bytes (c .before .before .before .before .before .before .before))))
+tested c =
+    let h = c .before .before .before .header-of in
+    sheet-rest (bytes (c .before .before .before .before .before .before .before)) (h .result) (h .ensures) (c .before .before .before .before .if1 .left) (good (c .before))
+    ∙ numbers-any (h .result .sharpness) (h .result .depth) (h .result .subx) (h .result .suby) (h .result .cols) (h .result .rows) (h .result .row) (h .result .col) (h .result .plane) (h .result .pass) _ (c .number-faults .result) (c .number-faults .ensures) (cellsRuns (h .result) (cellsOf (bytes (c .before .before .before .before .before .before .before))))
 
--- src/lib.rt:112:28
-enum-told : tie.Need-enum-told
-enum-told c = search needs
-
--- src/lib.rt:112:9
 print-words-requires : tie.Need-print-words-requires
-print-words-requires c κs = ?
+print-words-requires c κs =
+    let h = c .before .before .before .before .before .before .header-of in
+    let f = c .before .before .before .number-faults in
+    let n = numbers-passed (h .result .sharpness) (h .result .depth) (h .result .subx) (h .result .suby) (h .result .cols) (h .result .rows) (h .result .row) (h .result .col) (h .result .plane) (h .result .pass) _ (accepted [])
+        (f .ensures (accepted []) ∙ ap (λ r. afterwards r (accepted [])) (c .before .enum-told .given .1)) in
+    (h .ensures, n .0 .placed-at _ _, n .0 .cells-lent, header-narrow (h .result) (good (c .before .before .before .before)))
 
--- src/lib.rt:112:9
-same-length-3 : tie.Need-same-length-3
-same-length-3 c = search needs
-
--- src/lib.rt:112:9
 returns-3 : tie.Need-returns-3
-returns-3 c = ?
+returns-3 c =
+    let h = c .before .before .before .before .before .before .before .before .before .header-of in
+    let o = cellsRuns (h .result) (cellsOf (bytes (c .before .before .before .before .before .before .before .before .before .before .before .before .before))) in
+    sheet-text (bytes (c .before .before .before .before .before .before .before .before .before .before .before .before .before)) (h .result) (h .ensures) o (tested (c .before .before .before .before .before .before) ∙ ap (λ r. afterwards r o) (c .before .before .before .before .enum-told .given .1)) _ (c .before .before .print-words .ensures)
 
--- src/lib.rt:114:24
-number-of-requires : tie.Need-number-of-requires
-number-of-requires c κs = search needs
+-- an answer that is not Done is a refusal
+abbrev refusals : List ℕ
+refusals = 1 ∷ 2 ∷ 3 ∷ 4 ∷ 5 ∷ 6 ∷ 7 ∷ 8 ∷ 9 ∷ 10 ∷ 11 ∷ 12 ∷ []
 
--- src/lib.rt:114:24
-cast-print-refusal : tie.Need-cast-print-refusal
-cast-print-refusal c = search needs
+not-done : (answer : PassAnswer) → OneOf refusals (tagOf the-type answer) → (after : Outcome (List EdgeRun)) → afterwards answer after ≡ refused (returnedOf answer .number) (returnedOf answer .place)
+not-done answer k after =
+    ⊎-elim (λ (d : answer ≡ Done). absurd (miss refusals 0 tt (subst (λ (a : PassAnswer). OneOf refusals (tagOf the-type a)) d k))) (λ e. e) (done-or-refused answer after)
 
--- src/lib.rt:114:52
-place-of-requires : tie.Need-place-of-requires
-place-of-requires c κs = search needs
+refusal : (c : tie.After-place-of) → sheetRuns (bytes (c .before .before .before .before .before .before .before .before .before .before .before)) ≡ refused (c .before .number-of .result) (c .place-of .result)
+refusal c =
+    tested (c .before .before .before .before) ∙ not-done (c .before .before .before .before .number-faults .result) (c .before .before .before .match .keys2) _
+    ∙ (λ i. refused (sym (c .before .number-of .ensures) i) (sym (c .place-of .ensures) i))
 
--- src/lib.rt:114:5
 print-refusal-requires-3 : tie.Need-print-refusal-requires-3
-print-refusal-requires-3 c κs = ?
+print-refusal-requires-3 c κs = subst Tame (refusal c) (sheet-tame (bytes (c .before .before .before .before .before .before .before .before .before .before .before)))
 
--- src/lib.rt:88:1
-same-length-4 : tie.Need-same-length-4
-same-length-4 c = search needs
-
--- src/lib.rt:88:1
 returns-4 : tie.Need-returns-4
-returns-4 c = ?
+returns-4 c =
+    let h = c .before .before .before .before .before .before .before .before .before .before .header-of in
+    sheet-text (bytes (c .before .before .before .before .before .before .before .before .before .before .before .before .before .before)) (h .result) (h .ensures) _ (refusal (c .before .before .before)) _ (c .before .before .print-refusal3 .ensures)
 
 pub print-sheet-spec : {M : Type 1} → statement M
 print-sheet-spec =
     tie.close
     (tie.spec
-    print-refusal-requires
-    same-length
+    (search needs)
+    (search needs)
     returns
-    header-of-requires
-    bad-header-requires
-    print-refusal-requires-2
-    same-length-2
+    (search needs)
+    (search needs)
+    (search needs)
+    (search needs)
     returns-2
-    sub-number-faults
-    number-faults-requires
-    enum-told
+    (search needs)
+    (search needs)
+    (search needs)
     print-words-requires
-    same-length-3
+    (search needs)
     returns-3
-    number-of-requires
-    cast-print-refusal
-    place-of-requires
+    (search needs)
+    (search needs)
+    (search needs)
     print-refusal-requires-3
-    same-length-4
+    (search needs)
     returns-4)

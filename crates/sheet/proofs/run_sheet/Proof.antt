@@ -1,25 +1,26 @@
 use borrow.Author.Needs.{needs}
+use borrow.Author.Tests.{lt-ltb, le-ltb}
+use mathlib.Core.Path.{refl, ap, _∙_}
+use native.Mathlib.Nat.{zero-add}
+use native.Mathlib.Omega.{arith}
+use lib.ListN.{length}
+use Rattle.sheet.specs.Sheet.{runSheet}
+use Rattle.sheet.specs.SheetFits.{sheet-fits}
+use Rattle.sheet.specs.declared.SheetAnswer.the-variants.{Written}
+use Rattle.text.specs.TextLaws.{written-front}
 use Rattle.sheet.proofs.run_sheet.Statement.{statement}
 use Rattle.sheet.proofs.run_sheet.Tie as tie
-use Rattle.sheet.proofs.run_sheet.Reads as reads
-use Rattle.sheet.proofs.run_sheet.Lts as lts
-use Rattle.sheet.proofs.print_sheet.Reads as print-sheet-reads
 
--- src/lib.rt:122:37
-print-sheet-requires : tie.Need-print-sheet-requires
-print-sheet-requires c κs = search needs
-
--- src/lib.rt:122:9
-same-length : tie.Need-same-length
-same-length c = search needs
-
--- src/lib.rt:122:9
 returns : tie.Need-returns
-returns c = ?
+returns c =
+    let a = c .before .before .before .before .before .before .before .args in
+    let room = c .before .before .before .before .if1 .taken in
+    let put = c .before .before .print-sheet .ensures in
+    rw (lt-ltb 2047 (length (a .out .now)) room)
+    (ap Written (put .1 ∙ zero-add (length (runSheet (a .sheet .now)))), put .0 ∙ written-front (runSheet (a .sheet .now)) (a .out .now) (omega (arith, room, sheet-fits (a .sheet .now))))
 
--- src/lib.rt:118:1
 returns-2 : tie.Need-returns-2
-returns-2 c = ?
+returns-2 c = rw (le-ltb 2047 (length (c .before .before .before .args .out .now)) (c .if1 .left)) (refl, refl)
 
 pub run-sheet-spec : {M : Type 1} → statement M
-run-sheet-spec = tie.close (tie.spec print-sheet-requires same-length returns returns-2)
+run-sheet-spec = tie.close (tie.spec (search needs) (search needs) returns returns-2)
