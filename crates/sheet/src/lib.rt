@@ -76,7 +76,7 @@ fn print_cells(out: &mut [u8], h: SheetHeader, cells: &[u32]) -> usize
 
 // The numbers are tested: the words behind the header are the cells.
 fn print_words(out: &mut [u8], sheet: &[u8], h: SheetHeader) -> usize
-    requires { ⌜ (h ≡ headerOf (now sheet)) × Placed (sheetSetting h [] .superblock) × (cellsFrom (h .row) (h .cols) (h .rows) ≤ (length (now sheet) - 8) / 4) × (h .cols ≤ 1024) ⌝ }
+    requires { ⌜ (h ≡ headerOf (now sheet)) × Placed (sheetSetting h [] .superblock) × (cellsFrom (h .row) (h .cols) (h .rows) ≤ (length (now sheet) - 8) / 4) × (h .cols ≤ 1024) × (8 ≤ length (now sheet)) ⌝ }
     ensures { λ r. ⌜ Put 0 (printed h (cellsRuns h (cellsOf (now (sheet .entry))))) (now (out .entry)) (now (out .exit)) r ⌝ }
 {
     let mut words = [0u32; 8192];

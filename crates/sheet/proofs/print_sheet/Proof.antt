@@ -51,8 +51,8 @@ print-words-requires c κs =
     let h = c .before .before .before .before .before .before .header-of in
     let f = c .before .before .before .number-faults in
     let n = numbers-passed (h .result .sharpness) (h .result .depth) (h .result .subx) (h .result .suby) (h .result .cols) (h .result .rows) (h .result .row) (h .result .col) (h .result .plane) (h .result .pass) _ (accepted [])
-        (f .ensures (accepted []) ∙ ap (λ r. afterwards r (accepted [])) (c .before .enum-told .given .1)) in
-    (h .ensures, n .0 .placed-at _ _, n .0 .cells-lent, header-narrow (h .result) (good (c .before .before .before .before)))
+    (f .ensures (accepted []) ∙ ap (λ r. afterwards r (accepted [])) (c .before .enum-told .given .1)) in
+    (h .ensures, n .0 .placed-at _ _, n .0 .cells-lent, header-narrow (h .result) (good (c .before .before .before .before)), c .before .before .before .before .before .before .before .if1 .left)
 
 returns-3 : tie.Need-returns-3
 returns-3 c =

@@ -12,9 +12,10 @@ returns c =
     let plane = c .before .before .before .before .before .before .before .before .before .before .before .before .before .before .before .before .put-named2 .ensures in
     let row = c .before .before .before .before .before .before .before .before .before .before .before .put-named3 .ensures in
     let col = c .before .before .before .before .before .before .put-named4 .ensures in
-    let end = c .before .before .put-byte-unchecked .ensures in
-    (put-then _ _ _ _ (put-then _ _ _ _ (put-then _ _ _ _ (put-then _ _ _ _ (pass .0) (plane .0)) (row .0)) (col .0)) end,
-    omega (arith, pass .1, plane .1, row .1, col .1, end .1))
+    let end = c .before .before .put-byte-unchecked .ensures in (
+      put-then _ _ _ _ (put-then _ _ _ _ (put-then _ _ _ _ (put-then _ _ _ _ (pass .0) (plane .0)) (row .0)) (col .0)) end,
+      omega (arith, pass .1, plane .1, row .1, col .1, end .1),
+    )
 
 pub print-first-spec : {M : Type 1} → statement M
 print-first-spec =

@@ -12,9 +12,10 @@ returns c =
     let first = c .before .before .before .before .before .before .before .before .before .before .before .before .before .before .before .before .put-number2 .ensures in
     let count = c .before .before .before .before .before .before .before .before .before .before .before .before .put-number3 .ensures in
     let size = c .before .before .before .before .before .before .before .put-number4 .ensures in
-    let level = c .before .before .put-number5 .ensures in
-    (put-then _ _ _ _ (put-then _ _ _ _ (put-then _ _ _ _ (put-then _ _ _ _ (edge .0) (first .0)) (count .0)) (size .0)) (level .0),
-    omega (arith, edge .1, first .1, count .1, size .1, level .1))
+    let level = c .before .before .put-number5 .ensures in (
+      put-then _ _ _ _ (put-then _ _ _ _ (put-then _ _ _ _ (put-then _ _ _ _ (edge .0) (first .0)) (count .0)) (size .0)) (level .0),
+      omega (arith, edge .1, first .1, count .1, size .1, level .1),
+    )
 
 pub print-run-spec : {M : Type 1} → statement M
 print-run-spec =
