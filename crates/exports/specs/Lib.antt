@@ -1,4 +1,5 @@
 pub mod Border
 pub mod EdgeEntry
 pub mod LevelEntry
+pub mod SheetEntry
 pub mod StrengthEntry

@@ -5,4 +5,5 @@ pub mod level_entry;
 pub mod line_entry;
 pub mod pass_entry;
 pub mod row_entry;
+pub mod sheet_entry;
 pub mod strength_entry;
