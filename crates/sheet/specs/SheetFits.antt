@@ -6,7 +6,7 @@ use mathlib.Core.List.{List, [], _∷_, List·Memᴰ, List·Memᴰ·head, List·
 use Prim.Native.Nat.{ℕ, _-_, _*_, _/_, _≤_, _<_}
 use native.Mathlib.Nat.{mul-le-mul-right}
 use native.Mathlib.Omega.{arith}
-use borrow.Author.Tests.{ltb-false}
+use borrow.Author.Tests.{ltb-true, ltb-false}
 use lib.Dec.{eqb, ltb}
 use lib.ListN.{length, length-append}
 use Rattle.base.specs.Depth.{supported}
@@ -25,6 +25,8 @@ use Rattle.text.specs.Text.{decimal}
 use Rattle.text.specs.TextLaws.{decimal-length}
 use Rattle.sheet.specs.HeaderLaws.{Header, header-small}
 use Rattle.sheet.specs.Sheet.{headerOf, badHeader, sheetSetting, cellsRuns, cellsOf, sheetRuns, firstLine, runLine, runLines, refusalLine, printed, runSheet}
+use Rattle.sheet.specs.SheetAnswers.{answerOf}
+use Rattle.sheet.specs.declared.SheetAnswer.the-variants.{Written}
 use Rattle.sheet.specs.declared.header.SheetHeader.{SheetHeader}
 
 -- ---- lines
@@ -147,3 +149,11 @@ sheet-some bytes = by (sheetRuns bytes)
     by : (o : Outcome (List EdgeRun)) → 0 < length (printed (headerOf bytes) o)
     by (accepted l) = omega arith
     by (refused number place) = omega arith
+
+-- what is written lies within the buffer
+pub answer-fits : (bytes out : List ℕ) (count : ℕ) → Written count ≡ answerOf bytes out → count ≤ length out
+answer-fits bytes out count e = by (ltb 2047 (length out)) refl
+  where
+    by : (b : Bool) → ltb 2047 (length out) ≡ b → count ≤ length out
+    by true t = let same : count ≡ length (runSheet bytes) = cc (rw t at e) in omega (arith, ltb-true 2047 (length out) t, sheet-fits bytes)
+    by false t = absurd (let z : _≡_ {A = ℕ} 0 1 = cc (rw t at e) in omega arith)
