@@ -1,12 +1,13 @@
-// Prints the level table of a built-in frame header, the strengths of some of its levels, a line before
-// and after the filter, the cells of a row, the facts of some of its edges and a pass over it.
+// Prints, of built-in input, a level table, strengths, a line before and after the filter, the cells of a row, the facts of some of
+// its edges, its superblock before and after a pass, and its run sheet.
 ghost use Prim.Native.Nat.{_<_};
 
 mod case_s;
 mod output;
-mod pass_step;
 mod position;
+mod sheet_step;
 mod step;
+mod superblock;
 
 use case_s::print_row;
 use levels::header::Delta;
@@ -15,11 +16,12 @@ use levels::header::SegmentationParams;
 use levels::loop_filter::level_table;
 use libc::STDOUT_FILENO;
 use output::print_number;
-use pass_step::print_pass;
 use position::print_edges;
+use sheet_step::print_sheet;
 use step::print_line;
 use strength::StrengthAnswer;
 use strength::strength_for_level;
+use superblock::print_superblock;
 
 // Level 40, with deltas enabled and none in the header.
 fn header() -> LoopFilterParams {
@@ -99,5 +101,6 @@ fn main() {
     print_line();
     print_row();
     print_edges();
-    print_pass();
+    print_superblock();
+    print_sheet();
 }

@@ -8,18 +8,18 @@ use strength::StrengthAnswer;
 use strength::strength_for_level;
 
 // p7 to p0, then q0 to q7.
-pub(crate) fn step() -> [u16; 16] {
+fn step() -> [u16; 16] {
     let p = 100;
     let q = 104;
     [p, p, p, p, p, p, p, p, q, q, q, q, q, q, q, q]
 }
 
-fn print_sample(sample: u16) {
+pub(crate) fn print_sample(sample: u16) {
     io::write_all(STDOUT_FILENO, b" ");
     io::print_decimal(STDOUT_FILENO, sample as u64);
 }
 
-pub(crate) fn print_samples(t: &[u16; 16]) {
+fn print_samples(t: &[u16; 16]) {
     io::write_all(STDOUT_FILENO, b":");
     for k in 0..16 {
         print_sample(t[k]);

@@ -13,8 +13,8 @@ use Rattle.sheet.specs.Sheet.{runSheet}
 abbrev pub enough : (out : List ℕ) → Bool
 enough out = ltb 2047 (length out)
 
-abbrev pub answerOf : (bytes out : List ℕ) → SheetAnswer
+unfoldable pub answerOf : (bytes out : List ℕ) → SheetAnswer
 answerOf bytes out = cond (enough out) (Written (length (runSheet bytes))) Room
 
-abbrev pub textOf : (bytes out : List ℕ) → List ℕ
+unfoldable pub textOf : (bytes out : List ℕ) → List ℕ
 textOf bytes out = cond (enough out) (runSheet bytes ++ drop (length (runSheet bytes)) out) out

@@ -152,6 +152,7 @@ sheet-some bytes = by (sheetRuns bytes)
 
 -- what is written lies within the buffer
 pub answer-fits : (bytes out : List ℕ) (count : ℕ) → Written count ≡ answerOf bytes out → count ≤ length out
+unfolding answerOf
 answer-fits bytes out count e = by (ltb 2047 (length out)) refl
   where
     by : (b : Bool) → ltb 2047 (length out) ≡ b → count ≤ length out

@@ -1,16 +1,13 @@
 use borrow.Author.Needs.{needs}
 use mathlib.Core.Path.{sym, _∙_}
 use native.Mathlib.Omega.{arith}
-use lib.ListN.{replicate}
 use lib.Seq.{length-take-le}
 use Rattle.sheet.specs.SheetFits.{answer-fits}
 use Rattle.run_sheet.proofs.print_sheet.Statement.{statement}
 use Rattle.run_sheet.proofs.print_sheet.Tie as tie
 
 array-share-prefix-text : tie.Need-array-share-prefix-text
-array-share-prefix-text c =
-    let fits = answer-fits (c .before .before .before .before .before .before .before .args .sheet .now) (replicate 2048 0) (c .before .count .given .0 .0) (sym (c .before .count .given .1) ∙ c .before .before .before .before .run-sheet .ensures .0) in
-    omega (arith, fits)
+array-share-prefix-text c = omega (arith, answer-fits _ _ _ (sym (c .before .count .given .1) ∙ c .before .before .before .before .run-sheet .ensures .0))
 
 slice-aggregate-write-all : tie.Need-slice-aggregate-write-all
 slice-aggregate-write-all c = sym (length-take-le _ _ (array-share-prefix-text (c .before)))
