@@ -2,4 +2,5 @@ pub mod Pass
 pub mod WorkLaws
 pub mod PassLaws
 pub mod OrderOfWork
+pub mod PassRange
 pub mod Cases

@@ -5,3 +5,4 @@ pub mod WindowLaws
 pub mod SampleLaws
 pub mod InsideRun
 pub mod Reach
+pub mod RangeLaws

@@ -17,7 +17,7 @@ use Rattle.window.specs.declared.WindowShape.{WindowShape}
 -- ---- the window's rows
 
 module _ (g : WindowShape) (bound : ℕ) (samples : List ℕ) where
-  in-row : (row k : ℕ) → k < g .width → badSample g bound samples (row * g .width + k) ≡ reaches bound samples (row * g .stride) k
+  pub in-row : (row k : ℕ) → k < g .width → badSample g bound samples (row * g .width + k) ≡ reaches bound samples (row * g .stride) k
   unfolding badSample
   in-row row k h = rw (digits-div row h, digits-mod row h)
 

@@ -104,7 +104,7 @@ unfolding gather
 gather-length reads k zero w = refl
 gather-length reads k (suc n) w = ap suc (gather-length reads (suc k) n w)
 
-gather-at : (reads : ℕ → ℕ) (k n : ℕ) (w : List ℕ) (j : ℕ) → j < n → getD (gather reads k n w) j 0 ≡ getD w (reads (k + j)) 0
+pub gather-at : (reads : ℕ → ℕ) (k n : ℕ) (w : List ℕ) (j : ℕ) → j < n → getD (gather reads k n w) j 0 ≡ getD w (reads (k + j)) 0
 unfolding gather
 gather-at reads k zero w j l = absurd (omega arith)
 gather-at reads k (suc n) w zero l = rw add-zero
