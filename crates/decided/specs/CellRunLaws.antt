@@ -143,7 +143,7 @@ module _ (t : Setting) (pass : Pass) where
   abbrev pub Uniform : EdgeRun → Type 0
   Uniform a = (p : Position) → List·Memᴰ p (positionsOf a) → Says (a .size) (a .level) (decisionAt t pass p)
 
-  cell-uniform : (edge c : ℕ) → Uniform (cellAt edge c)
+  pub cell-uniform : (edge c : ℕ) → Uniform (cellAt edge c)
   unfolding cellRun
   cell-uniform edge c p m =
       let r = strip-mem position edge (start c) len m in
@@ -153,7 +153,7 @@ module _ (t : Setting) (pass : Pass) where
       let d = at ∙ same-decision (t .superblock) pass (t .chroma) (t .cells) edge c (r .i - start c) (omega arith) in
       record { size = ap (λ (x : Decision). x .size) d; level = ap levelOf d }
 
-  longer-uniform : (a b : EdgeRun) → Joins a b → Uniform a → Uniform b → Uniform (longer a (b .count))
+  pub longer-uniform : (a b : EdgeRun) → Joins a b → Uniform a → Uniform b → Uniform (longer a (b .count))
   longer-uniform a b j u v p m = by (List·Memᴰ·append-cases (positionsOf a) (rw (longer-positions a b j) at m))
     where
       by : List·Memᴰ p (positionsOf a) ⊎ List·Memᴰ p (positionsOf b) → Says (a .size) (a .level) (decisionAt t pass p)

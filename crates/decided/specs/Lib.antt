@@ -3,3 +3,4 @@ pub mod Runs
 pub mod JoinLaws
 pub mod CellRunLaws
 pub mod RunsLaws
+pub mod CellWalk

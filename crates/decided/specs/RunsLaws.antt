@@ -68,7 +68,7 @@ cell-small s pass chroma cells edge c he hc =
       level = level-small (decision s pass chroma cells edge i) (decision-level s pass chroma cells edge i);
     }
 
-longer-small : (a b : EdgeRun) → Joins a b → Small a → Small b → Small (longer a (b .count))
+pub longer-small : (a b : EdgeRun) → Joins a b → Small a → Small b → Small (longer a (b .count))
 longer-small a b j p q = record { edge = p .edge; first = p .first; count = j .count; size = p .size; level = p .level }
 
 -- ---- levels above 0
@@ -80,7 +80,7 @@ level-filters d = by (d .decided)
     by true = refl
     by false = refl
 
-level-decided : (d : Decision) (n : ℕ) → levelOf d ≡ n → 0 < n → (d .decided ≡ true) × (d .level ≡ n)
+pub level-decided : (d : Decision) (n : ℕ) → levelOf d ≡ n → 0 < n → (d .decided ≡ true) × (d .level ≡ n)
 level-decided d n e h = by (d .decided) e
   where
     by : (b : Bool) → cond b (d .level) 0 ≡ n → (b ≡ true) × (d .level ≡ n)

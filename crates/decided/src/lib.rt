@@ -3,6 +3,7 @@ ghost use mathlib.Core.Path.{_≡_};
 ghost use Prim.Native.Nat.{_+_, _≤_, _<_};
 ghost use lib.ListN.{length};
 ghost use Rattle.decided.specs.Runs.{levelOf, cellRun, joins, longer};
+ghost use Rattle.decided.specs.CellWalk.{Fresh};
 ghost use Rattle.decided.specs.RunsLaws.{Small};
 ghost use Rattle.geometry.specs.Frame.{cellsFrom};
 ghost use Rattle.positions.specs.Positions.{Placed, edgeCount};
@@ -26,6 +27,19 @@ fn level_of(d: Decision) -> u8
     ensures { λ r. ⌜ r ≡ levelOf d ⌝ }
 {
     if d.decided { d.level } else { 0 }
+}
+
+// The run that stands before the first cell: it joins with none, and filters nothing.
+pub fn no_run() -> EdgeRun
+    ensures { λ r. ⌜ Fresh r ⌝ }
+{
+    EdgeRun {
+        edge: 0,
+        first: 1,
+        count: 0,
+        size: 0,
+        level: 0,
+    }
 }
 
 // The positions of one cell along an edge, as a run by themselves.

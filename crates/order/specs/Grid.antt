@@ -154,7 +154,7 @@ module _ {A : Type 0} (mk : ℕ → ℕ → A) where
       let r = strip-mem e (suc i) n m in
       record { e = r .e; i = r .i; is = r .is; low = r .low; high = r .high; from = omega arith; to = omega arith }
 
-  mem-strip : (e i n j : ℕ) → i ≤ j → j < i + n → List·Memᴰ (mk e j) (strip e i n)
+  pub mem-strip : (e i n j : ℕ) → i ≤ j → j < i + n → List·Memᴰ (mk e j) (strip e i n)
   mem-strip e i zero j h k = absurd (omega arith)
   mem-strip e i (suc n) j h k = go (ℕ-discrete j i) (mem-strip e (suc i) n j)
     where

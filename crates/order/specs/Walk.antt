@@ -2,7 +2,7 @@
 -- Assumes nothing.
 use mathlib.Core.Path.{_≡_, refl, ap, _∙_}
 use mathlib.Core.Bool.{Bool, true, false}
-use mathlib.Core.List.{List, [], _∷_, _++_, append-nil}
+use mathlib.Core.List.{List, [], _∷_, _++_, append-nil, List·Memᴰ, List·Memᴰ·head, List·Memᴰ·tail}
 use Prim.Native.Nat.{ℕ, _+_}
 use native.Mathlib.Omega.{arith}
 use Rattle.order.specs.Order.{run}
@@ -58,3 +58,12 @@ module _ {A S : Type 0} (f : A → S → S) (q : A → Bool) where
         ap (λ (l : List A). run f (select q l) s) (strips-split mk 0 e 1 k e (omega arith))
         ∙ run-select-append (grid mk e k) (strip mk e 0 k ++ []) s
         ∙ ap (λ (l : List A). run f (select q l) (run f (select q (grid mk e k)) s)) (append-nil (strip mk e 0 k))
+
+-- steps that a test does not admit, and that do nothing, may be left out
+pub run-idle : {A S : Type 0} (f : A → S → S) (q : A → Bool) (l : List A) → ((a : A) → List·Memᴰ a l → q a ≡ false → (s : S) → f a s ≡ s) → (s : S) → run f l s ≡ run f (select q l) s
+run-idle f q [] h s = refl
+run-idle {A} {S} f q (a ∷ l) h s = by (q a) refl (run-idle f q l (λ b m. h b (List·Memᴰ·tail m)))
+  where
+    by : (b : Bool) → q a ≡ b → ((u : S) → run f l u ≡ run f (select q l) u) → run f l (f a s) ≡ run f (keep-if b a (select q l)) s
+    by true e rest = rest (f a s)
+    by false e rest = ap (run f l) (h a (List·Memᴰ·head refl) e s) ∙ rest s

@@ -1,36 +1,40 @@
--- The pass as its loops do it: edge by edge, and along an edge cell by cell, each cell by one decision.
+-- The pass as its loops do it: run by run, each by one decision.
 -- Assumes nothing.
 use mathlib.Core.Path.{_≡_, refl, sym, ap, _∙_}
-use mathlib.Core.Bool.{Bool, true, false, _&&_}
-use mathlib.Core.List.{List, [], _∷_}
-use Prim.Native.Nat.{ℕ, zero, suc, _+_, _*_, _/_, _≤_, _<_}
+use mathlib.Core.Bool.{Bool, true, false, cond}
+use mathlib.Core.List.{List, [], _∷_, _++_, List·Memᴰ·not-nil}
+use Prim.Native.Nat.{ℕ, zero, suc, _+_, _*_, _≤_, _<_}
 use native.Mathlib.Numerals.{add-one}
 use native.Mathlib.Omega.{arith}
 use lib.ListN.{length}
-use borrow.Author.Tests.{lt-ltb}
+use borrow.Author.Tests.{ltb-true, lt-ltb, le-ltb}
 use Rattle.base.specs.Depth.{supported}
-use Rattle.edges.specs.Decision.{decision}
-use Rattle.edges.specs.DecisionLaws.{same-decision}
-use Rattle.positions.specs.PositionsLaws.{plane-vertical, plane-horizontal}
-use Rattle.positions.specs.Positions.{Placed, alongSub, cellStart, cellLen, edgeCount, edgeLen, planeX, planeY}
-use Rattle.edges.specs.declared.decision.Decision.{Decision}
+use Rattle.decided.specs.CellRunLaws.{cellAt, cellsOf, Uniform, cell-uniform, longer-uniform}
+use Rattle.decided.specs.CellWalk.{Fresh, closed, grown, walked, pending, walked-one, pending-one, walked-append, pending-append, walked-joined, walked-fresh, grown-all}
+use Rattle.decided.specs.Decided.{Position, position, Setting, decisionAt, decided, filters}
+use Rattle.decided.specs.JoinLaws.{Joins}
+use Rattle.decided.specs.Runs.{cellRun, joins, longer, joinedFrom, joined, runFilters, runs, positionsOf, allPositions}
+use Rattle.decided.specs.RunsLaws.{Small, cell-small, longer-small, level-decided, runsOf, runs-positions}
+use Rattle.decided.specs.declared.EdgeRun.{EdgeRun}
 use Rattle.geometry.specs.Coordinates.{shr}
 use Rattle.geometry.specs.Frame.{cellsFrom}
 use Rattle.geometry.specs.declared.Pass.{Pass}
 use Rattle.geometry.specs.declared.Pass.the-variants.{Vertical, Horizontal}
+use Rattle.geometry.specs.declared.Superblock.{Superblock}
 use Rattle.line.specs.SampleFiltering.{sampleFiltering}
-use Rattle.order.specs.Grid.{select, strip, grid}
+use Rattle.order.specs.Grid.{keep-if, select, select-append, strip, grid, mem-strip}
 use Rattle.order.specs.Order.{run}
-use Rattle.order.specs.Walk.{when, run-strip-more, run-strip-last, run-grid-next}
+use Rattle.order.specs.Walk.{run-append, run-strip-next, run-idle}
+use Rattle.positions.specs.Positions.{Placed, sub, alongSub, edgeCount, edgeLen, planeX, planeY}
+use Rattle.positions.specs.PositionsLaws.{plane-vertical, plane-horizontal, cell-along}
 use Rattle.strength.specs.Strength.{strengthOf}
 use Rattle.strength.specs.declared.FilterStrength.{FilterStrength}
 use Rattle.window.specs.Reach.{stencil-idle}
-use Rattle.window.specs.Stencil.{applied, inTurn}
+use Rattle.window.specs.Stencil.{Stencil, applied, inTurn}
 use Rattle.window.specs.StencilLaws.{applied-length}
 use Rattle.window.specs.Window.{stencil, alongX, alongY, runOf}
 use Rattle.window.specs.WindowLaws.{Lent}
 use Rattle.window.specs.declared.WindowShape.{WindowShape}
-use Rattle.decided.specs.Decided.{Position, position, Setting, decisionAt, isDecided, decided, filters}
 use Rattle.pass.specs.Pass.{lineOf, step, superblockLoopFilter}
 
 -- what the tests leave: what the work asks for
@@ -54,82 +58,113 @@ pub pass-length : (g : WindowShape) (t : Setting) (pass : Pass) (samples : List 
 unfolding superblockLoopFilter
 pass-length g t pass samples = steps-length g t pass (decided t pass) samples
 
+-- ---- the pass, run by run
+
+-- the steps of runs one behind the other
+pos-steps : (f : Position → List ℕ → List ℕ) (l : List EdgeRun) (samples : List ℕ) → run f (allPositions l) samples ≡ run (λ (a : EdgeRun). run f (positionsOf a)) l samples
+pos-steps f [] samples = refl
+pos-steps f (a ∷ l) samples = run-append f (positionsOf a) (allPositions l) samples ∙ pos-steps f l (run f (positionsOf a) samples)
+
+-- what the code asks of a run
+pub record Good (t : Setting) (pass : Pass) (a : EdgeRun) : Type 0 where
+  pub small : Small a
+  pub uniform : Uniform t pass a
+  pub edge : a .edge < edgeCount (t .superblock) pass
+  pub ends : a .first + a .count ≤ edgeLen (t .superblock) pass
+
+pub longer-good : (t : Setting) (pass : Pass) (a b : EdgeRun) → Joins a b → Good t pass a → Good t pass b → Good t pass (longer a (b .count))
+longer-good t pass a b j p q = record {
+  small = longer-small a b j (p .small) (q .small);
+  uniform = longer-uniform t pass a b j (p .uniform) (q .uniform);
+  edge = p .edge;
+  ends = omega (arith, j .first, q .ends);
+}
+
+pub cell-good : (t : Setting) (pass : Pass) (edge c : ℕ) → edge < edgeCount (t .superblock) pass → c < 8 → Good t pass (cellAt t pass edge c)
+unfolding cellRun
+cell-good t pass edge c h k = record {
+  small = cell-small (t .superblock) pass (t .chroma) (t .cells) edge c h k;
+  uniform = cell-uniform t pass edge c;
+  edge = h;
+  ends = cell-along (t .superblock) pass c k;
+}
+
+some-edge : (s : Superblock) (pass : Pass) → 0 < edgeCount s pass
+unfolding edgeCount
+some-edge s pass = by (sub s pass)
+  where
+    by : (b : Bool) → 0 < shr 16 b
+    by true = omega arith
+    by false = omega arith
+
+pub fresh-good : (t : Setting) (pass : Pass) (a : EdgeRun) → Fresh a → Good t pass a
+unfolding edgeLen
+fresh-good t pass a f = record {
+  small = record { edge = omega arith; first = omega arith; count = omega arith; size = omega arith; level = omega arith };
+  uniform = λ p m. absurd (List·Memᴰ·not-nil (rw (f .count) at m));
+  edge = omega (arith, f .edge, some-edge (t .superblock) pass);
+  ends = by (alongSub (t .superblock) pass);
+}
+  where
+    by : (b : Bool) → a .first + a .count ≤ shr 64 b
+    by true = omega arith
+    by false = omega arith
+
+-- the first cell starts its edge
+cell-0 : (t : Setting) (pass : Pass) → cellAt t pass 0 0 .first ≡ 0
+unfolding cellRun
+cell-0 t pass = by (alongSub (t .superblock) pass)
+  where
+    by : (b : Bool) → shr (8 * 0) b ≡ 0
+    by true = refl
+    by false = refl
+
+-- a run, as the code filters it: one size and one strength for all its positions
+unfoldable pub runFiltered : WindowShape → Superblock → Pass → (sharpness depth : ℕ) → EdgeRun → List ℕ → List ℕ
+runFiltered g s pass sharpness depth a samples =
+    let strength = strengthOf (a .level) sharpness in
+    cond (runFilters a)
+    (inTurn (runOf g pass (planeX s pass (a .edge) (a .first)) (planeY s pass (a .edge) (a .first)) (sampleFiltering depth (a .size) (strength .limit) (strength .blimit) (strength .thresh))) (a .count) samples)
+    samples
+
+pub filtered-on : (g : WindowShape) (s : Superblock) (pass : Pass) (sharpness depth : ℕ) (a : EdgeRun) → 0 < a .level → (x y : ℕ) (st : FilterStrength)
+    → x ≡ planeX s pass (a .edge) (a .first) → y ≡ planeY s pass (a .edge) (a .first) → st ≡ strengthOf (a .level) sharpness
+    → (samples result : List ℕ) → result ≡ inTurn (runOf g pass x y (sampleFiltering depth (a .size) (st .limit) (st .blimit) (st .thresh))) (a .count) samples
+    → result ≡ runFiltered g s pass sharpness depth a samples
+unfolding runFiltered
+filtered-on g s pass sharpness depth a level x y st ex ey es samples result h =
+    h ∙ (λ i. inTurn (runOf g pass (ex i) (ey i) (sampleFiltering depth (a .size) (es i .limit) (es i .blimit) (es i .thresh))) (a .count) samples) ∙ (rw (lt-ltb 0 (a .level) level))
+
+pub filtered-off : (g : WindowShape) (s : Superblock) (pass : Pass) (sharpness depth : ℕ) (a : EdgeRun) (samples : List ℕ) → a .level ≤ 0 → samples ≡ runFiltered g s pass sharpness depth a samples
+unfolding runFiltered
+filtered-off g s pass sharpness depth a samples none = rw (le-ltb 0 (a .level) none)
+
 module _ (g : WindowShape) (t : Setting) (pass : Pass) where
-  -- n decided positions of an edge, from i on
-  abbrev stripDone : (edge i n : ℕ) → List ℕ → List ℕ
-  stripDone edge i n samples = run (step g t pass) (select (isDecided t pass) (strip position edge i n)) samples
+  abbrev runStep : EdgeRun → List ℕ → List ℕ
+  runStep a samples = run (step g t pass) (positionsOf a) samples
 
-  -- the first position of cell c along an edge, and how many it has
-  abbrev start : ℕ → ℕ
-  start c = cellStart (t .superblock) pass c
+  -- the steps of those runs of a list that filter
+  unfoldable pub runsDone : List EdgeRun → List ℕ → List ℕ
+  runsDone l samples = run runStep (select runFilters l) samples
 
-  abbrev len : ℕ
-  len = cellLen (t .superblock) pass
+  pub runs-done-none : (samples : List ℕ) → samples ≡ runsDone [] samples
+  unfolding runsDone
+  runs-done-none samples = refl
 
-  pub len-cell : (n : ℕ) → n ≡ edgeLen (t .superblock) pass → n / 8 ≡ len
-  unfolding edgeLen
-  len-cell n e = rw e (by (alongSub (t .superblock) pass))
-    where
-      by : (sub : Bool) → shr 64 sub / 8 ≡ shr 8 sub
-      by true = refl
-      by false = refl
+  pub runs-done-append : (l m : List EdgeRun) (samples : List ℕ) → runsDone m (runsDone l samples) ≡ runsDone (l ++ m) samples
+  unfolding runsDone
+  runs-done-append l m samples =
+      sym (run-append runStep (select runFilters l) (select runFilters m) samples) ∙ ap (λ (r : List EdgeRun). run runStep r samples) (sym (select-append runFilters l m))
 
-  pub start-cell : (n c : ℕ) → n ≡ edgeLen (t .superblock) pass → c * (n / 8) ≡ start c
-  start-cell n c e = rw (len-cell n e) (by (alongSub (t .superblock) pass))
-    where
-      by : (sub : Bool) → c * shr 8 sub ≡ shr (8 * c) sub
-      by true = omega arith
-      by false = omega arith
+  runs-steps : (l : List EdgeRun) (samples : List ℕ) → length (run runStep l samples) ≡ length samples
+  runs-steps [] samples = refl
+  runs-steps (a ∷ l) samples = runs-steps l (runStep a samples) ∙ steps-length g t pass (positionsOf a) samples
 
-  -- cell c of an edge; the first c cells of an edge; the first n edges
-  unfoldable pub cellDone : (edge c : ℕ) → List ℕ → List ℕ
-  cellDone edge c samples = stripDone edge (start c) len samples
+  pub runs-done-length : (l : List EdgeRun) (samples : List ℕ) → length (runsDone l samples) ≡ length samples
+  unfolding runsDone
+  runs-done-length l samples = runs-steps (select runFilters l) samples
 
-  unfoldable pub cellsDone : (edge c : ℕ) → List ℕ → List ℕ
-  cellsDone edge c samples = stripDone edge 0 (start c) samples
-
-  unfoldable pub edgesDone : (n : ℕ) → List ℕ → List ℕ
-  edgesDone n samples = run (step g t pass) (select (isDecided t pass) (grid position n (edgeLen (t .superblock) pass))) samples
-
-  pub cells-none : (edge : ℕ) (samples : List ℕ) → samples ≡ cellsDone edge 0 samples
-  unfolding cellsDone
-  cells-none edge samples = none (alongSub (t .superblock) pass)
-    where
-      none : (sub : Bool) → samples ≡ stripDone edge 0 (shr (8 * 0) sub) samples
-      none true = refl
-      none false = refl
-
-  pub cells-more : (edge c : ℕ) (samples : List ℕ) → cellDone edge c (cellsDone edge c samples) ≡ cellsDone edge (c + 1) samples
-  unfolding cellDone cellsDone
-  cells-more edge c samples =
-      sym (run-strip-more (step g t pass) (isDecided t pass) position edge (start c) len samples)
-      ∙ ap (λ (n : ℕ). stripDone edge 0 n samples) (next (alongSub (t .superblock) pass))
-    where
-      next : (sub : Bool) → shr (8 * c) sub + shr 8 sub ≡ shr (8 * (c + 1)) sub
-      next true = omega arith
-      next false = omega arith
-
-  pub edges-none : (samples : List ℕ) → samples ≡ edgesDone 0 samples
-  unfolding edgesDone
-  edges-none samples = refl
-
-  pub edges-more : (edge : ℕ) (samples : List ℕ) → cellsDone edge 8 (edgesDone edge samples) ≡ edgesDone (edge + 1) samples
-  unfolding cellsDone edgesDone edgeLen
-  edges-more edge samples = sym (run-grid-next (step g t pass) (isDecided t pass) position edge (edgeLen (t .superblock) pass) samples)
-
-  pub edges-all : (samples : List ℕ) → edgesDone (edgeCount (t .superblock) pass) samples ≡ superblockLoopFilter g t pass samples
-  unfolding edgesDone superblockLoopFilter decided
-  edges-all samples = refl
-
-  pub cells-length : (edge c : ℕ) (samples : List ℕ) → length (cellsDone edge c samples) ≡ length samples
-  unfolding cellsDone
-  cells-length edge c samples = steps-length g t pass (select (isDecided t pass) (strip position edge 0 (start c))) samples
-
-  pub edges-length : (n : ℕ) (samples : List ℕ) → length (edgesDone n samples) ≡ length samples
-  unfolding edgesDone
-  edges-length n samples = steps-length g t pass (select (isDecided t pass) (grid position n (edgeLen (t .superblock) pass))) samples
-
-  -- ---- one cell, by the decision of its first position
+  -- ---- one run
 
   -- k positions further along an edge
   along : (edge i k : ℕ) → (planeX (t .superblock) pass edge (i + k) ≡ alongX pass (planeX (t .superblock) pass edge i) k) × (planeY (t .superblock) pass edge (i + k) ≡ alongY pass (planeY (t .superblock) pass edge i) k)
@@ -139,65 +174,119 @@ module _ (g : WindowShape) (t : Setting) (pass : Pass) where
       by Vertical = plane-vertical (t .superblock) edge i k
       by Horizontal = plane-horizontal (t .superblock) edge i k
 
-  module _ (edge c : ℕ) (d : Decision) (is : d ≡ decisionAt t pass (position edge (start c))) where
+  -- the line filter of a size and a level
+  abbrev lineBy : (size level : ℕ) → List ℕ → List ℕ
+  lineBy size level =
+      let strength = strengthOf level (t .sharpness) in
+      sampleFiltering (t .depth) size (strength .limit) (strength .blimit) (strength .thresh)
+
+  module _ (a : EdgeRun) (u : Uniform t pass a) (level : 0 < a .level) where
     abbrev x : ℕ
-    x = planeX (t .superblock) pass edge (start c)
+    x = planeX (t .superblock) pass (a .edge) (a .first)
 
     abbrev y : ℕ
-    y = planeY (t .superblock) pass edge (start c)
+    y = planeY (t .superblock) pass (a .edge) (a .first)
 
-    each : (k : ℕ) → k < len → decisionAt t pass (position edge (start c + k)) ≡ d
-    each k h = same-decision (t .superblock) pass (t .chroma) (t .cells) edge c k h ∙ sym is
+    abbrev family : (k : ℕ) → Stencil
+    family = runOf g pass x y (lineBy (a .size) (a .level))
 
-    -- the turn of a loop at position k of the cell: the step of the decision, if that is decided
-    turn : (k : ℕ) → k < len → (samples : List ℕ)
-        → when (isDecided t pass (position edge (start c + k))) (step g t pass (position edge (start c + k))) samples
-        ≡ when (d .decided) (λ (w : List ℕ). applied (stencil g pass (alongX pass x k) (alongY pass y k) (filters d) (lineOf t d)) w) samples
-    unfolding isDecided step
-    turn k h samples =
-        let a = along edge (start c) k in
-        λ i. when (each k h i .decided) (λ (w : List ℕ). applied (stencil g pass (a .0 i) (a .1 i) (filters (each k h i)) (lineOf t (each k h i))) w) samples
+    -- position k of the run does what the run's stencil k does
+    does : (k : ℕ) → k < a .count → (samples : List ℕ) → applied (family k) samples ≡ step g t pass (position (a .edge) (a .first + k)) samples
+    unfolding step lineOf
+    does k h samples =
+        let d = decisionAt t pass (position (a .edge) (a .first + k)) in
+        let says = u (position (a .edge) (a .first + k)) (mem-strip position (a .edge) (a .first) (a .count) (a .first + k) (omega arith) (omega arith)) in
+        let lvl = level-decided d (a .level) (says .level) level in
+        let on : filters d ≡ true = rw (lvl .1) (lt-ltb 0 (a .level) level) in
+        let p = along (a .edge) (a .first) k in
+        λ i. applied (stencil g pass (sym (p .0) i) (sym (p .1) i) (sym on i) (lineBy (sym (says .size) i) (sym (lvl .1) i))) samples
 
-    last : (n : ℕ) (samples : List ℕ) → stripDone edge (start c) (suc n) samples
-        ≡ when (isDecided t pass (position edge (start c + n))) (step g t pass (position edge (start c + n))) (stripDone edge (start c) n samples)
-    last n samples = rw (add-one n) at (run-strip-last (step g t pass) (isDecided t pass) position edge (start c) n samples)
-
-    -- a run does them all
-    pub cell-filtered : d .decided ≡ true → 0 < d .level → (samples : List ℕ) → inTurn (runOf g pass x y (lineOf t d)) len samples ≡ cellDone edge c samples
-    unfolding cellDone inTurn
-    cell-filtered on level samples = from len (omega arith)
+    pub run-filtered : (samples : List ℕ) → inTurn family (a .count) samples ≡ run (step g t pass) (positionsOf a) samples
+    unfolding inTurn
+    run-filtered samples = from (a .count) (omega arith)
       where
-        does : (k : ℕ) (w : List ℕ) → applied (runOf g pass x y (lineOf t d) k) w
-            ≡ when (d .decided) (λ (u : List ℕ). applied (stencil g pass (alongX pass x k) (alongY pass y k) (filters d) (lineOf t d)) u) w
-        does k w = λ i. when (sym on i) (λ (u : List ℕ). applied (stencil g pass (alongX pass x k) (alongY pass y k) (sym (lt-ltb 0 (d .level) level) i) (lineOf t d)) u) w
-
-        from : (n : ℕ) → n ≤ len → inTurn (runOf g pass x y (lineOf t d)) n samples ≡ stripDone edge (start c) n samples
+        from : (n : ℕ) → n ≤ a .count → inTurn family n samples ≡ run (step g t pass) (strip position (a .edge) (a .first) n) samples
         from zero h = refl
         from (suc n) h =
-            ap (λ (w : List ℕ). applied (runOf g pass x y (lineOf t d) n) w) (from n (omega arith))
-            ∙ does n (stripDone edge (start c) n samples) ∙ sym (turn n (omega arith) (stripDone edge (start c) n samples)) ∙ sym (last n samples)
+            does n (omega arith) (inTurn family n samples)
+            ∙ ap (step g t pass (position (a .edge) (a .first + n))) (from n (omega arith))
+            ∙ sym (rw (add-one n) at (run-strip-next (step g t pass) position (a .edge) (a .first) n samples))
 
-    -- as the code calls it
-    pub cell-run : d .decided ≡ true → 0 < d .level → (x′ y′ n : ℕ) (st : FilterStrength) → x′ ≡ x → y′ ≡ y → n ≡ len → st ≡ strengthOf (d .level) (t .sharpness)
-        → (samples result : List ℕ) → result ≡ inTurn (runOf g pass x′ y′ (sampleFiltering (t .depth) (d .size) (st .limit) (st .blimit) (st .thresh))) n samples → result ≡ cellDone edge c samples
-    unfolding lineOf
-    cell-run on level x′ y′ n st ex ey en es samples result h =
-        h ∙ (λ i. inTurn (runOf g pass (ex i) (ey i) (sampleFiltering (t .depth) (d .size) (es i .limit) (es i .blimit) (es i .thresh))) (en i) samples) ∙ cell-filtered on level samples
+  pub filtered-done : (a : EdgeRun) → Uniform t pass a → (samples : List ℕ) → runFiltered g (t .superblock) pass (t .sharpness) (t .depth) a samples ≡ runsDone (a ∷ []) samples
+  unfolding runFiltered runsDone
+  filtered-done a u samples = by (runFilters a) refl
+    where
+      by : (b : Bool) → runFilters a ≡ b → cond b (inTurn (runOf g pass (planeX (t .superblock) pass (a .edge) (a .first)) (planeY (t .superblock) pass (a .edge) (a .first)) (lineBy (a .size) (a .level))) (a .count) samples) samples
+          ≡ run runStep (keep-if b a []) samples
+      by true e = run-filtered a u (ltb-true 0 (a .level) e) samples
+      by false e = refl
 
-    -- what is not decided, or has level 0, is left
-    idle : (d .decided && filters d) ≡ false → (k : ℕ) → k < len → (samples : List ℕ)
-        → when (isDecided t pass (position edge (start c + k))) (step g t pass (position edge (start c + k))) samples ≡ samples
-    idle e k h samples = turn k h samples ∙ cases (d .decided) e
-      where
-        cases : (b : Bool) → (b && filters d) ≡ false → when b (λ (w : List ℕ). applied (stencil g pass (alongX pass x k) (alongY pass y k) (filters d) (lineOf t d)) w) samples ≡ samples
-        cases true e = stencil-idle g pass _ _ (filters d) (lineOf t d) samples e
-        cases false e = refl
+  -- ---- all runs
 
-    pub cell-idle : (d .decided && filters d) ≡ false → (samples : List ℕ) → samples ≡ cellDone edge c samples
-    unfolding cellDone
-    cell-idle e samples = sym (from len (omega arith))
-      where
-        from : (n : ℕ) → n ≤ len → stripDone edge (start c) n samples ≡ samples
-        from zero h = refl
-        from (suc n) h =
-            last n samples ∙ idle e n (omega arith) (stripDone edge (start c) n samples) ∙ from n (omega arith)
+  pass-runs : (samples : List ℕ) → superblockLoopFilter g t pass samples ≡ run runStep (runsOf t pass) samples
+  unfolding superblockLoopFilter step
+  pass-runs samples =
+      run-idle (step g t pass) (λ p. filters (decisionAt t pass p)) (decided t pass) (λ p m e s. stencil-idle g pass _ _ _ (lineOf t (decisionAt t pass p)) s e) samples
+      ∙ ap (λ (l : List Position). run (step g t pass) l samples) (sym (runs-positions t pass))
+      ∙ pos-steps (step g t pass) (runsOf t pass) samples
+
+  -- the runs that a walk over all cells closes, and the one that it leaves, are the pass
+  pub walk-whole : (a : EdgeRun) → Fresh a → (samples : List ℕ)
+      → runsDone (pending a (cellsOf t pass) ∷ []) (runsDone (walked a (cellsOf t pass)) samples) ≡ superblockLoopFilter g t pass samples
+  unfolding runsDone runs
+  walk-whole a f samples =
+      runs-done-append (walked a (cellsOf t pass)) (pending a (cellsOf t pass) ∷ []) samples
+      ∙ ap (λ (l : List EdgeRun). run runStep (select runFilters l) samples) (walked-joined a (cellsOf t pass))
+      ∙ ap (λ (l : List EdgeRun). run runStep l samples) (fresh (edgeCount (t .superblock) pass) (some-edge (t .superblock) pass))
+      ∙ sym (pass-runs samples)
+    where
+      fresh : (n : ℕ) → 0 < n → select runFilters (joinedFrom a (grid (cellAt t pass) n 8)) ≡ select runFilters (joined (grid (cellAt t pass) n 8))
+      fresh zero h = absurd (omega arith)
+      fresh (suc n) h = walked-fresh a (cellAt t pass 0 0) _ f (cell-0 t pass)
+
+  -- ---- the walk as the loops make it
+
+  -- the cells l arrived while a was pending: before became after, and r is pending
+  pub record Walk (l : List EdgeRun) (a : EdgeRun) (before after : List ℕ) (r : EdgeRun) : Type 0 where
+    pub samples-are : after ≡ runsDone (walked a l) before
+    pub pending-is : r ≡ pending a l
+    pub good : Good t pass r
+
+  pub walk-none : (a : EdgeRun) (samples : List ℕ) → Good t pass a → Walk [] a samples samples a
+  unfolding walked pending
+  walk-none a samples good = record { samples-are = runs-done-none samples; pending-is = refl; good = good }
+
+  pub walk-then : {l m : List EdgeRun} {a b r : EdgeRun} (before : List ℕ) {between after : List ℕ} → Walk l a before between b → Walk m b between after r → Walk (l ++ m) a before after r
+  walk-then {l} {m} {a} before u v = record {
+    samples-are = v .samples-are ∙ (λ i. runsDone (walked (u .pending-is i) m) (u .samples-are i))
+        ∙ runs-done-append (walked a l) (walked (pending a l) m) before ∙ ap (λ (k : List EdgeRun). runsDone k before) (sym (walked-append a l m));
+    pending-is = v .pending-is ∙ ap (λ (k : EdgeRun). pending k m) (u .pending-is) ∙ sym (pending-append a l m);
+    good = v .good;
+  }
+
+  pub walk-length : {l : List EdgeRun} {a r : EdgeRun} (before : List ℕ) {after : List ℕ} → Walk l a before after r → length after ≡ length before
+  walk-length {l} {a} before u = ap length (u .samples-are) ∙ runs-done-length (walked a l) before
+
+  -- one cell b, which the code has as next
+  module _ (a b : EdgeRun) (p : Good t pass a) (q : Good t pass b) (next : EdgeRun) (is : next ≡ b) where
+    pub walk-joins : (samples : List ℕ) (more : EdgeRun) → joins a next ≡ true → more ≡ longer a (next .count) → Walk (b ∷ []) a samples samples more
+    unfolding closed grown
+    walk-joins samples more j e =
+        let on : joins a b ≡ true = rw is at j in
+        let made : more ≡ grown a b = rw on (rw is at e) in
+        record {
+          samples-are = rw (← walked-one a b, on) (runs-done-none samples);
+          pending-is = made ∙ pending-one a b;
+          good = rw made (grown-all (Good t pass) (longer-good t pass) a b p q);
+        }
+
+    pub walk-parts : (before after : List ℕ) → joins a next ≡ false → after ≡ runsDone (a ∷ []) before → Walk (b ∷ []) a before after next
+    unfolding closed grown
+    walk-parts before after j e =
+        let off : joins a b ≡ false = rw is at j in
+        let made : next ≡ grown a b = rw off is in
+        record {
+          samples-are = rw (← walked-one a b, off) e;
+          pending-is = made ∙ pending-one a b;
+          good = rw made (grown-all (Good t pass) (longer-good t pass) a b p q);
+        }

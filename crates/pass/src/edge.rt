@@ -1,21 +1,51 @@
-// One edge of a pass, cell by cell.
+// The edges of a pass, cell by cell: adjacent cells that filter alike are joined, and each run is filtered once it cannot grow.
 ghost use mathlib.Core.Path.{_≡_};
-ghost use Prim.Native.Nat.{_<_};
+ghost use mathlib.Core.Bool.{true};
+ghost use mathlib.Core.List.{_∷_, []};
+ghost use Prim.Native.Nat.{_≤_, _<_};
 ghost use lib.ListN.{length};
-ghost use Rattle.positions.specs.Positions.{edgeCount};
+ghost use Rattle.base.specs.Depth.{supported};
 ghost use Rattle.decided.specs.Decided.{setting};
-ghost use Rattle.pass.specs.WorkLaws.{Ready, cellDone, cellsDone};
-use edges::decision::decide_unchecked;
+ghost use Rattle.decided.specs.Runs.{cellRun};
+ghost use Rattle.decided.specs.RunsLaws.{Small};
+ghost use Rattle.order.specs.Grid.{strip};
+ghost use Rattle.positions.specs.Positions.{Placed, edgeCount};
+ghost use Rattle.window.specs.WindowLaws.{Lent};
+ghost use Rattle.pass.specs.WorkLaws.{Ready, Good, runFiltered, Walk};
+use decided::EdgeRun;
+use decided::cell_run_unchecked;
+use decided::joins_unchecked;
+use decided::longer_unchecked;
 use geometry::Pass;
 use geometry::Superblock;
-use positions::edge_len;
 use positions::plane_x_unchecked;
 use positions::plane_y_unchecked;
 use runs::filter_run_unchecked;
 use strength::strength_unchecked;
 use window::WindowShape;
 
-// All positions that read one cell are decided once, and filtered as one run.
+// Level 0 filters nothing.
+pub(crate) fn filter_pending(
+    samples: &mut [u16],
+    g: WindowShape,
+    s: Superblock,
+    pass: Pass,
+    sharpness: u8,
+    depth: u8,
+    a: EdgeRun,
+)
+    requires { ⌜ Lent g (length (now samples)) × Placed s × Small a × (sharpness ≤ 7) × (supported depth ≡ true) ⌝ }
+    ensures { λ r. ⌜ now (samples .exit) ≡ runFiltered g s pass sharpness depth a (now (samples .entry)) ⌝ }
+{
+    if 0 < a.level {
+        let x = plane_x_unchecked(s, pass, a.edge, a.first);
+        let y = plane_y_unchecked(s, pass, a.edge, a.first);
+        let strength = strength_unchecked(a.level, sharpness);
+        filter_run_unchecked(samples, g, pass, x, y, a.count, depth, a.size, strength);
+    }
+}
+
+// The cell is joined to the run that is pending, or that run is filtered and the cell is pending in its place.
 fn filter_cell(
     samples: &mut [u16],
     g: WindowShape,
@@ -27,19 +57,17 @@ fn filter_cell(
     depth: u8,
     edge: usize,
     c: usize,
-)
-    requires { ⌜ Ready g (length (now samples)) (setting s chroma sharpness depth (now cells)) × (edge < edgeCount s pass) × (c < 8) ⌝ }
-    ensures { λ r. ⌜ now (samples .exit) ≡ cellDone g (setting s chroma sharpness depth (now (cells .entry))) pass edge c (now (samples .entry)) ⌝ }
+    pending: EdgeRun,
+) -> EdgeRun
+    requires { ⌜ Ready g (length (now samples)) (setting s chroma sharpness depth (now cells)) × (edge < edgeCount s pass) × (c < 8) × Good (setting s chroma sharpness depth (now cells)) pass pending ⌝ }
+    ensures { λ r. ⌜ Walk g (setting s chroma sharpness depth (now (cells .entry))) pass (cellRun s pass chroma (now (cells .entry)) edge c ∷ []) pending (now (samples .entry)) (now (samples .exit)) r ⌝ }
 {
-    let n = edge_len(s, pass) / 8;
-    let i = c * n;
-    let d = decide_unchecked(cells, s, pass, chroma, edge, i);
-    if d.decided & (0 < d.level) {
-        let x = plane_x_unchecked(s, pass, edge, i);
-        let y = plane_y_unchecked(s, pass, edge, i);
-        let strength = strength_unchecked(d.level, sharpness);
-        filter_run_unchecked(samples, g, pass, x, y, n, depth, d.size, strength);
+    let next = cell_run_unchecked(cells, s, pass, chroma, edge, c);
+    if joins_unchecked(pending, next) {
+        return longer_unchecked(pending, next.count);
     }
+    filter_pending(samples, g, s, pass, sharpness, depth, pending);
+    next
 }
 
 pub(crate) fn filter_edge(
@@ -52,12 +80,14 @@ pub(crate) fn filter_edge(
     sharpness: u8,
     depth: u8,
     edge: usize,
-)
-    requires { ⌜ Ready g (length (now samples)) (setting s chroma sharpness depth (now cells)) × (edge < edgeCount s pass) ⌝ }
-    ensures { λ r. ⌜ now (samples .exit) ≡ cellsDone g (setting s chroma sharpness depth (now (cells .entry))) pass edge 8 (now (samples .entry)) ⌝ }
+    start: EdgeRun,
+) -> EdgeRun
+    requires { ⌜ Ready g (length (now samples)) (setting s chroma sharpness depth (now cells)) × (edge < edgeCount s pass) × Good (setting s chroma sharpness depth (now cells)) pass start ⌝ }
+    ensures { λ r. ⌜ Walk g (setting s chroma sharpness depth (now (cells .entry))) pass (strip (cellRun s pass chroma (now (cells .entry))) edge 0 8) start (now (samples .entry)) (now (samples .exit)) r ⌝ }
 {
+    let mut pending = start;
     for c in 0..8 {
-        filter_cell(
+        pending = filter_cell(
             samples,
             g,
             cells,
@@ -68,6 +98,8 @@ pub(crate) fn filter_edge(
             depth,
             edge,
             c,
+            pending,
         );
     }
+    pending
 }

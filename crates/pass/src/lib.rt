@@ -14,7 +14,9 @@ ghost use Rattle.pass.specs.WorkLaws.{Ready};
 mod edge;
 pub mod faults;
 
+use decided::no_run;
 use edge::filter_edge;
+use edge::filter_pending;
 use faults::list_faults;
 use faults::number_faults;
 use geometry::Pass;
@@ -97,9 +99,22 @@ pub fn superblock_loop_filter_unchecked(
     ensures { λ r. ⌜ now (samples .exit) ≡ superblockLoopFilter g (setting s chroma sharpness depth (now (cells .entry))) pass (now (samples .entry)) ⌝ }
 {
     let count = edge_count(s, pass);
+    let mut pending = no_run();
     for edge in 0..count {
-        filter_edge(samples, g, cells, s, pass, chroma, sharpness, depth, edge);
+        pending = filter_edge(
+            samples,
+            g,
+            cells,
+            s,
+            pass,
+            chroma,
+            sharpness,
+            depth,
+            edge,
+            pending,
+        );
     }
+    filter_pending(samples, g, s, pass, sharpness, depth, pending);
 }
 
 // The numbers are tested: now the lists, and then the work.
