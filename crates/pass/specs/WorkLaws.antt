@@ -3,7 +3,7 @@
 use mathlib.Core.Path.{_≡_, refl, sym, ap, _∙_}
 use mathlib.Core.Bool.{Bool, true, false, cond}
 use mathlib.Core.List.{List, [], _∷_, _++_, List·Memᴰ·not-nil}
-use Prim.Native.Nat.{ℕ, zero, suc, _+_, _*_, _≤_, _<_}
+use Prim.Native.Nat.{ℕ, zero, suc, _+_, _*_, _^_, _≤_, _<_}
 use native.Mathlib.Numerals.{add-one}
 use native.Mathlib.Omega.{arith}
 use lib.ListN.{length}
@@ -21,7 +21,9 @@ use Rattle.geometry.specs.Frame.{cellsFrom}
 use Rattle.geometry.specs.declared.Pass.{Pass}
 use Rattle.geometry.specs.declared.Pass.the-variants.{Vertical, Horizontal}
 use Rattle.geometry.specs.declared.Superblock.{Superblock}
+use Rattle.edges.specs.declared.decision.Decision.{Decision}
 use Rattle.line.specs.SampleFiltering.{sampleFiltering}
+use Rattle.line.specs.SampleFilteringLaws.{filters-within}
 use Rattle.order.specs.Grid.{keep-if, select, select-append, strip, grid, mem-strip}
 use Rattle.order.specs.Order.{run}
 use Rattle.order.specs.Walk.{run-append, run-strip-next, run-idle}
@@ -29,6 +31,7 @@ use Rattle.positions.specs.Positions.{Placed, sub, alongSub, edgeCount, edgeLen
 use Rattle.positions.specs.PositionsLaws.{plane-vertical, plane-horizontal, cell-along}
 use Rattle.strength.specs.Strength.{strengthOf}
 use Rattle.strength.specs.declared.FilterStrength.{FilterStrength}
+use Rattle.window.specs.RangeLaws.{InRange, Keeps, position-range}
 use Rattle.window.specs.Reach.{stencil-idle}
 use Rattle.window.specs.Stencil.{Stencil, applied, inTurn}
 use Rattle.window.specs.StencilLaws.{applied-length}
@@ -38,16 +41,15 @@ use Rattle.window.specs.declared.WindowShape.{WindowShape}
 use Rattle.pass.specs.Pass.{lineOf, step, superblockLoopFilter}
 
 -- what the tests leave: what the work asks for
-pub record Ready (g : WindowShape) (lent : ℕ) (t : Setting) : Type 0 where
-  pub window : Lent g lent
+pub record Ready (g : WindowShape) (t : Setting) (samples : List ℕ) : Type 0 where
+  pub window : Lent g (length samples)
+  pub range : InRange g (2 ^ t .depth) samples
   pub placed : Placed (t .superblock)
   pub cells : cellsFrom (t .superblock .row) (t .superblock .cols) (t .superblock .rows) ≤ length (t .cells)
   pub sharpness : t .sharpness ≤ 7
   pub depth : supported (t .depth) ≡ true
 
--- it stays so while samples are stored
-pub still-ready : (g : WindowShape) (t : Setting) (before after : ℕ) → after ≡ before → Ready g before t → Ready g after t
-still-ready g t before after e r = rw e r
+-- ---- steps keep the length of the list, and samples in range
 
 pub steps-length : (g : WindowShape) (t : Setting) (pass : Pass) (order : List Position) (samples : List ℕ) → length (run (step g t pass) order samples) ≡ length samples
 unfolding step
@@ -57,6 +59,18 @@ steps-length g t pass (p ∷ order) samples = steps-length g t pass order (step 
 pub pass-length : (g : WindowShape) (t : Setting) (pass : Pass) (samples : List ℕ) → length (superblockLoopFilter g t pass samples) ≡ length samples
 unfolding superblockLoopFilter
 pass-length g t pass samples = steps-length g t pass (decided t pass) samples
+
+module _ (g : WindowShape) (n : ℕ) (w : Lent g n) (t : Setting) (pass : Pass) (depth : supported (t .depth) ≡ true) where
+  line-keeps : (d : Decision) → Keeps (2 ^ t .depth) (lineOf t d)
+  unfolding lineOf
+  line-keeps d = record { keep = λ taps h. filters-within (t .depth) (d .size) _ _ _ taps depth (record { below = h }) .below }
+
+  pub steps-range : (order : List Position) (samples : List ℕ) → InRange g (2 ^ t .depth) samples → InRange g (2 ^ t .depth) (run (step g t pass) order samples)
+  unfolding step
+  steps-range [] samples r = r
+  steps-range (p ∷ order) samples r =
+      let d = decisionAt t pass p in
+      steps-range order (step g t pass p samples) (position-range g (2 ^ t .depth) pass _ _ (filters d) (lineOf t d) samples (w .wide) (w .tall) (line-keeps d) r)
 
 -- ---- the pass, run by run
 
@@ -164,6 +178,10 @@ module _ (g : WindowShape) (t : Setting) (pass : Pass) where
   unfolding runsDone
   runs-done-length l samples = runs-steps (select runFilters l) samples
 
+  runs-range : {n : ℕ} → Lent g n → supported (t .depth) ≡ true → (l : List EdgeRun) (samples : List ℕ) → InRange g (2 ^ t .depth) samples → InRange g (2 ^ t .depth) (run runStep l samples)
+  runs-range w d [] samples r = r
+  runs-range {n} w d (a ∷ l) samples r = runs-range w d l (runStep a samples) (steps-range g n w t pass d (positionsOf a) samples r)
+
   -- ---- one run
 
   -- k positions further along an edge
@@ -266,6 +284,18 @@ module _ (g : WindowShape) (t : Setting) (pass : Pass) where
 
   pub walk-length : {l : List EdgeRun} {a r : EdgeRun} (before : List ℕ) {after : List ℕ} → Walk l a before after r → length after ≡ length before
   walk-length {l} {a} before u = ap length (u .samples-are) ∙ runs-done-length (walked a l) before
+
+  -- the work may go on
+  pub walk-ready : {l : List EdgeRun} {a r : EdgeRun} (before : List ℕ) {after : List ℕ} → Walk l a before after r → Ready g t before → Ready g t after
+  unfolding runsDone
+  walk-ready {l} {a} before u ready = record {
+    window = rw (walk-length before u) (ready .window);
+    range = rw (u .samples-are) (runs-range (ready .window) (ready .depth) (select runFilters (walked a l)) before (ready .range));
+    placed = ready .placed;
+    cells = ready .cells;
+    sharpness = ready .sharpness;
+    depth = ready .depth;
+  }
 
   -- one cell b, which the code has as next
   module _ (a b : EdgeRun) (p : Good t pass a) (q : Good t pass b) (next : EdgeRun) (is : next ≡ b) where

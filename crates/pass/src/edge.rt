@@ -2,7 +2,7 @@
 ghost use mathlib.Core.Path.{_≡_};
 ghost use mathlib.Core.Bool.{true};
 ghost use mathlib.Core.List.{_∷_, []};
-ghost use Prim.Native.Nat.{_≤_, _<_};
+ghost use Prim.Native.Nat.{_^_, _≤_, _<_};
 ghost use lib.ListN.{length};
 ghost use Rattle.base.specs.Depth.{supported};
 ghost use Rattle.decided.specs.Decided.{setting};
@@ -10,6 +10,7 @@ ghost use Rattle.decided.specs.Runs.{cellRun};
 ghost use Rattle.decided.specs.RunsLaws.{Small};
 ghost use Rattle.order.specs.Grid.{strip};
 ghost use Rattle.positions.specs.Positions.{Placed, edgeCount};
+ghost use Rattle.window.specs.RangeLaws.{InRange};
 ghost use Rattle.window.specs.WindowLaws.{Lent};
 ghost use Rattle.pass.specs.WorkLaws.{Ready, Good, runFiltered, Walk};
 use decided::EdgeRun;
@@ -34,7 +35,7 @@ pub(crate) fn filter_pending(
     depth: u8,
     a: EdgeRun,
 )
-    requires { ⌜ Lent g (length (now samples)) × Placed s × Small a × (sharpness ≤ 7) × (supported depth ≡ true) ⌝ }
+    requires { ⌜ Lent g (length (now samples)) × InRange g (2 ^ depth) (now samples) × Placed s × Small a × (sharpness ≤ 7) × (supported depth ≡ true) ⌝ }
     ensures { λ r. ⌜ now (samples .exit) ≡ runFiltered g s pass sharpness depth a (now (samples .entry)) ⌝ }
 {
     if 0 < a.level {
@@ -59,7 +60,7 @@ fn filter_cell(
     c: usize,
     pending: EdgeRun,
 ) -> EdgeRun
-    requires { ⌜ Ready g (length (now samples)) (setting s chroma sharpness depth (now cells)) × (edge < edgeCount s pass) × (c < 8) × Good (setting s chroma sharpness depth (now cells)) pass pending ⌝ }
+    requires { ⌜ Ready g (setting s chroma sharpness depth (now cells)) (now samples) × (edge < edgeCount s pass) × (c < 8) × Good (setting s chroma sharpness depth (now cells)) pass pending ⌝ }
     ensures { λ r. ⌜ Walk g (setting s chroma sharpness depth (now (cells .entry))) pass (cellRun s pass chroma (now (cells .entry)) edge c ∷ []) pending (now (samples .entry)) (now (samples .exit)) r ⌝ }
 {
     let next = cell_run_unchecked(cells, s, pass, chroma, edge, c);
@@ -82,7 +83,7 @@ pub(crate) fn filter_edge(
     edge: usize,
     start: EdgeRun,
 ) -> EdgeRun
-    requires { ⌜ Ready g (length (now samples)) (setting s chroma sharpness depth (now cells)) × (edge < edgeCount s pass) × Good (setting s chroma sharpness depth (now cells)) pass start ⌝ }
+    requires { ⌜ Ready g (setting s chroma sharpness depth (now cells)) (now samples) × (edge < edgeCount s pass) × Good (setting s chroma sharpness depth (now cells)) pass start ⌝ }
     ensures { λ r. ⌜ Walk g (setting s chroma sharpness depth (now (cells .entry))) pass (strip (cellRun s pass chroma (now (cells .entry))) edge 0 8) start (now (samples .entry)) (now (samples .exit)) r ⌝ }
 {
     let mut pending = start;

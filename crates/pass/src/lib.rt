@@ -95,7 +95,7 @@ pub fn superblock_loop_filter_unchecked(
     sharpness: u8,
     depth: u8,
 )
-    requires { ⌜ Ready g (length (now samples)) (setting s chroma sharpness depth (now cells)) ⌝ }
+    requires { ⌜ Ready g (setting s chroma sharpness depth (now cells)) (now samples) ⌝ }
     ensures { λ r. ⌜ now (samples .exit) ≡ superblockLoopFilter g (setting s chroma sharpness depth (now (cells .entry))) pass (now (samples .entry)) ⌝ }
 {
     let count = edge_count(s, pass);

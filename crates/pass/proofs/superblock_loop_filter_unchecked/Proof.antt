@@ -9,7 +9,7 @@ use Rattle.decided.specs.Decided.{Setting, setting}
 use Rattle.decided.specs.Runs.{cellRun}
 use Rattle.order.specs.Grid.{strip, grid, strips-split}
 use Rattle.positions.specs.Positions.{edgeCount}
-use Rattle.pass.specs.WorkLaws.{still-ready, fresh-good, runsDone, filtered-done, walk-whole, Walk, walk-none, walk-then, walk-length, pass-length}
+use Rattle.pass.specs.WorkLaws.{fresh-good, runsDone, filtered-done, walk-whole, Walk, walk-none, walk-then, walk-ready, pass-length}
 use Rattle.pass.proofs.superblock_loop_filter_unchecked.Statement.{statement}
 use Rattle.pass.proofs.superblock_loop_filter_unchecked.Tie as tie
 
@@ -33,7 +33,7 @@ filter-edge-requires : tie.Need-filter-edge-requires Inv-loop μ-loop
 filter-edge-requires c κs =
     let start = c .before .before .before .before .before .before .before in
     let loop = c .before .before .loop in
-    (still-ready (start .args .g) (given start) _ _ (walk-length (start .args .g) (given start) (start .args .pass) _ (loop .inv .1)) (start .pre), rw (c .before .before .before .before .edge-count .ensures .0) at (c .before .loop-test .taken), loop .inv .1 .good)
+    (walk-ready (start .args .g) (given start) (start .args .pass) _ (loop .inv .1) (start .pre), rw (c .before .before .before .before .edge-count .ensures .0) at (c .before .loop-test .taken), loop .inv .1 .good)
 
 loop-again : tie.Need-loop-again Inv-loop μ-loop
 loop-again c =
@@ -49,8 +49,8 @@ filter-pending-requires : tie.Need-filter-pending-requires Inv-loop μ-loop
 filter-pending-requires c κs =
     let start = c .before .before .before .before .before .before .before in
     let loop = c .before .before .loop in
-    let r = still-ready (start .args .g) (given start) _ _ (walk-length (start .args .g) (given start) (start .args .pass) _ (loop .inv .1)) (start .pre) in
-    (r .window, r .placed, loop .inv .1 .good .small, r .sharpness, r .depth)
+    let r = walk-ready (start .args .g) (given start) (start .args .pass) _ (loop .inv .1) (start .pre) in
+    (r .window, r .range, r .placed, loop .inv .1 .good .small, r .sharpness, r .depth)
 
 -- all cells have arrived
 whole : (c : tie.After-loop Inv-loop μ-loop) →

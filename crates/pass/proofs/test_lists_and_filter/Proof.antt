@@ -5,6 +5,7 @@ use mathlib.Core.Path.{sym, ap, _∙_}
 use Rattle.base.specs.Outcome.{accepted}
 use Rattle.decided.specs.Decided.{Setting, setting}
 use Rattle.pass.specs.Pass.{superblockLoopFilter}
+use Rattle.window.specs.RangeLaws.{tested-range}
 use Rattle.pass.specs.PassLaws.{lists-passed, done-answer}
 use Rattle.pass.proofs.Refusals.{refused-answer, passed-on}
 use Rattle.pass.proofs.test_lists_and_filter.Statement.{statement}
@@ -19,7 +20,7 @@ superblock-loop-filter-unchecked-requires c κs =
     let start = c .before .before .before .before .before .before .before in
     let p = start .pre in
     let l = lists-passed (start .args .g) (given start) (start .args .pass) (now (start .args .samples)) _ (passed-on (c .before .before .before .list-faults .result) _ _ (c .before .enum-told .given .1) (c .before .before .before .list-faults .ensures (accepted []))) in
-    record { window = l .0 .window-lent; placed = p .0; cells = p .1; sharpness = p .2; depth = p .3 }
+    record { window = l .0 .window-lent; range = tested-range _ _ _ (l .0 .samples-good); placed = p .0; cells = p .1; sharpness = p .2; depth = p .3 }
 
 returns : tie.Need-returns
 returns c =

@@ -6,7 +6,7 @@ use Rattle.decided.specs.CellRunLaws.{cellAt}
 use Rattle.decided.specs.Decided.{Setting, setting}
 use Rattle.decided.specs.Runs.{cellRun}
 use Rattle.order.specs.Grid.{strip, strip-split}
-use Rattle.pass.specs.WorkLaws.{still-ready, Walk, walk-none, walk-then, walk-length}
+use Rattle.pass.specs.WorkLaws.{Walk, walk-none, walk-then, walk-length, walk-ready}
 use Rattle.pass.proofs.edge.filter_edge.Statement.{statement}
 use Rattle.pass.proofs.edge.filter_edge.Tie as tie
 
@@ -28,7 +28,7 @@ filter-cell-requires : tie.Need-filter-cell-requires Inv-loop μ-loop
 filter-cell-requires c κs =
     let start = c .before .before .before .before .before in
     let loop = c .before .before .loop in
-    (still-ready (start .args .g) (given start) _ _ (walk-length (start .args .g) (given start) (start .args .pass) _ (loop .inv .1)) (start .pre .0), start .pre .1, c .before .loop-test .taken, loop .inv .1 .good)
+    (walk-ready (start .args .g) (given start) (start .args .pass) _ (loop .inv .1) (start .pre .0), start .pre .1, c .before .loop-test .taken, loop .inv .1 .good)
 
 loop-again : tie.Need-loop-again Inv-loop μ-loop
 loop-again c =

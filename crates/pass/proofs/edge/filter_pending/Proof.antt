@@ -7,7 +7,7 @@ use Rattle.pass.proofs.edge.filter_pending.Tie as tie
 filter-run-unchecked-requires : tie.Need-filter-run-unchecked-requires
 filter-run-unchecked-requires c κs =
     let p = c .before .before .before .before .before .before .before .pre in
-    (p .0, omega (arith, c .before .before .before .plane-x-unchecked .ensures .1), omega (arith, c .before .before .plane-y-unchecked .ensures .1), omega (arith, p .2 .count), p .4)
+    (p .0, omega (arith, c .before .before .before .plane-x-unchecked .ensures .1), omega (arith, c .before .before .plane-y-unchecked .ensures .1), omega (arith, p .3 .count), p .5)
 
 returns : tie.Need-returns
 returns c =
