@@ -6,6 +6,7 @@ mod numbers;
 mod pass_record;
 mod replay;
 mod row_record;
+mod sheet_record;
 mod strength_record;
 
 use replay::Kind;
@@ -19,4 +20,5 @@ fn main() {
     replay_file(b"rows.bin", Kind::Row);
     replay_file(b"edges.bin", Kind::Edge);
     replay_file(b"passes.bin", Kind::Pass);
+    replay_file(b"sheets.bin", Kind::Sheet);
 }

@@ -5,6 +5,7 @@ use crate::levels_record;
 use crate::line_record;
 use crate::pass_record;
 use crate::row_record;
+use crate::sheet_record;
 use crate::strength_record;
 use libc::STDOUT_FILENO;
 
@@ -19,6 +20,7 @@ pub(crate) enum Kind {
     Row,
     Edge,
     Pass,
+    Sheet,
 }
 
 // A record stands at the start: with one length for all kinds, one loop reads them all.
@@ -47,6 +49,7 @@ fn record_length(kind: Kind) -> usize
         Kind::Row => row_record::LENGTH,
         Kind::Edge => edge_record::LENGTH,
         Kind::Pass => pass_record::LENGTH,
+        Kind::Sheet => sheet_record::LENGTH,
     }
 }
 
@@ -58,6 +61,7 @@ fn is_equal(kind: Kind, record: &Record) -> bool {
         Kind::Row => row_record::is_equal(record),
         Kind::Edge => edge_record::is_equal(record),
         Kind::Pass => pass_record::is_equal(record),
+        Kind::Sheet => sheet_record::is_equal(record),
     }
 }
 
