@@ -3,11 +3,15 @@
 use mathlib.Core.Path.{_≡_, refl, sym, ap, _∙_}
 use mathlib.Core.Bool.{Bool, true, false, cond}
 use mathlib.Core.List.{List, [], _∷_, _++_, append-assoc, List·Memᴰ, List·Memᴰ·head, List·Memᴰ·tail}
-use Prim.Native.Nat.{ℕ, _<_}
+use Prim.Native.Nat.{ℕ, zero, suc, _*_, _<_}
 use native.Mathlib.Omega.{arith}
-use Rattle.order.specs.Grid.{select}
+use Rattle.geometry.specs.Coordinates.{shr}
+use Rattle.geometry.specs.declared.Pass.{Pass}
+use Rattle.geometry.specs.declared.Superblock.{Superblock}
+use Rattle.order.specs.Grid.{select, grid}
+use Rattle.positions.specs.Positions.{sub, alongSub, edgeCount}
 use Rattle.decided.specs.JoinLaws.{Joins, joins-true}
-use Rattle.decided.specs.Runs.{joins, longer, joinedFrom, runFilters}
+use Rattle.decided.specs.Runs.{cellRun, joins, longer, joinedFrom, joined, runFilters, runs}
 use Rattle.decided.specs.declared.EdgeRun.{EdgeRun}
 
 -- while a is pending, the cell b arrives: the runs that it closes, and the run that is pending then
@@ -53,7 +57,7 @@ pending-append a [] m = refl
 pending-append a (b ∷ l) m = pending-append (grown a b) l m
 
 -- with the run that is left pending they are the joined runs
-pub walked-joined : (a : EdgeRun) (l : List EdgeRun) → walked a l ++ pending a l ∷ [] ≡ joinedFrom a l
+walked-joined : (a : EdgeRun) (l : List EdgeRun) → walked a l ++ pending a l ∷ [] ≡ joinedFrom a l
 unfolding walked pending closed grown joinedFrom
 walked-joined a [] = refl
 walked-joined a (b ∷ l) = by (joins a b) (walked-joined (longer a (b .count)) l) (walked-joined b l)
@@ -73,7 +77,7 @@ pub record Fresh (a : EdgeRun) : Type 0 where
   pub size : a .size ≡ 0
   pub level : a .level ≡ 0
 
-pub walked-fresh : (a b : EdgeRun) (l : List EdgeRun) → Fresh a → b .first ≡ 0
+walked-fresh : (a b : EdgeRun) (l : List EdgeRun) → Fresh a → b .first ≡ 0
     → select runFilters (joinedFrom a (b ∷ l)) ≡ select runFilters (joinedFrom b l)
 unfolding joinedFrom
 walked-fresh a b l f g = by (joins a b) refl
@@ -91,3 +95,29 @@ grown-all P more a b p q = by (joins a b) refl
     by : (t : Bool) → joins a b ≡ t → P (cond t (longer a (b .count)) b)
     by true e = more a b (joins-true a b e) p q
     by false e = q
+
+-- ---- a walk over all cells of a pass
+
+some-edge : (b : Bool) → 0 < shr 16 b
+some-edge true = omega arith
+some-edge false = omega arith
+
+first-none : (b : Bool) → shr (8 * 0) b ≡ 0
+first-none true = refl
+first-none false = refl
+
+pub edges-some : (s : Superblock) (pass : Pass) → 0 < edgeCount s pass
+unfolding edgeCount
+edges-some s pass = some-edge (sub s pass)
+
+-- the runs that it closes, and the one that it leaves: those that filter are the runs of the pass
+pub walked-runs : (s : Superblock) (pass : Pass) (chroma : Bool) (cells : List ℕ) (a : EdgeRun) → Fresh a →
+    let l = grid (cellRun s pass chroma cells) (edgeCount s pass) 8 in
+    select runFilters (walked a l ++ pending a l ∷ []) ≡ runs s pass chroma cells
+unfolding runs cellRun
+walked-runs s pass chroma cells a f =
+    ap (select runFilters) (walked-joined a (grid (cellRun s pass chroma cells) (edgeCount s pass) 8)) ∙ by (edgeCount s pass) (edges-some s pass)
+  where
+    by : (n : ℕ) → 0 < n → select runFilters (joinedFrom a (grid (cellRun s pass chroma cells) n 8)) ≡ select runFilters (joined (grid (cellRun s pass chroma cells) n 8))
+    by zero h = absurd (omega arith)
+    by (suc n) h = walked-fresh a (cellRun s pass chroma cells 0 0) _ f (first-none (alongSub s pass))

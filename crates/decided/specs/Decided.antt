@@ -47,8 +47,10 @@ abbrev pub filters : Decision → Bool
 filters d = ltb 0 (d .level)
 
 -- plane 0 counts as not subsampled
-abbrev pub settingOf : (sharpness depth subX subY miCols miRows row col plane : ℕ) (cells : List ℕ) → Setting
-settingOf sharpness depth subX subY miCols miRows row col plane cells =
+abbrev pub superblockOf : (subX subY miCols miRows row col plane : ℕ) → Superblock
+superblockOf subX subY miCols miRows row col plane =
     let chroma = ltb 0 plane in
-    let s : Superblock = record { subx = chroma && eqb subX 1; suby = chroma && eqb subY 1; cols = miCols; rows = miRows; row = row; col = col } in
-    setting s chroma sharpness depth cells
+    record { subx = chroma && eqb subX 1; suby = chroma && eqb subY 1; cols = miCols; rows = miRows; row = row; col = col }
+
+abbrev pub settingOf : (sharpness depth subX subY miCols miRows row col plane : ℕ) (cells : List ℕ) → Setting
+settingOf sharpness depth subX subY miCols miRows row col plane cells = setting (superblockOf subX subY miCols miRows row col plane) (ltb 0 plane) sharpness depth cells

@@ -2,6 +2,7 @@
 ghost use mathlib.Core.Path.{_≡_};
 ghost use Prim.Native.Nat.{_+_, _≤_, _<_};
 ghost use lib.ListN.{length};
+ghost use Rattle.decided.specs.Decided.{superblockOf};
 ghost use Rattle.decided.specs.Runs.{levelOf, cellRun, joins, longer};
 ghost use Rattle.decided.specs.CellWalk.{Fresh};
 ghost use Rattle.decided.specs.RunsLaws.{Small};
@@ -12,6 +13,29 @@ use edges::decision::decide_unchecked;
 use geometry::Pass;
 use geometry::Superblock;
 use positions::along;
+
+// The superblock of a plane, of numbers that are tested: plane 0 counts as not subsampled.
+pub fn superblock_of(
+    sub_x: u8,
+    sub_y: u8,
+    mi_cols: usize,
+    mi_rows: usize,
+    row: usize,
+    col: usize,
+    plane: u8,
+) -> Superblock
+    ensures { λ r. ⌜ r ≡ superblockOf «sub_x» «sub_y» «mi_cols» «mi_rows» row col plane ⌝ }
+{
+    let chroma = 0 < plane;
+    Superblock {
+        subx: chroma & (sub_x == 1),
+        suby: chroma & (sub_y == 1),
+        cols: mi_cols,
+        rows: mi_rows,
+        row,
+        col,
+    }
+}
 
 // Positions first, first + 1, .. of an edge, count of them, all with one size and one level. Level 0 filters nothing.
 pub struct EdgeRun {

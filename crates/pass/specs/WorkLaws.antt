@@ -10,10 +10,10 @@ use lib.ListN.{length}
 use borrow.Author.Tests.{ltb-true, lt-ltb, le-ltb}
 use Rattle.base.specs.Depth.{supported}
 use Rattle.decided.specs.CellRunLaws.{cellAt, cellsOf, Uniform, cell-uniform, longer-uniform}
-use Rattle.decided.specs.CellWalk.{Fresh, closed, grown, walked, pending, walked-one, pending-one, walked-append, pending-append, walked-joined, walked-fresh, grown-all}
+use Rattle.decided.specs.CellWalk.{Fresh, closed, grown, walked, pending, walked-one, pending-one, walked-append, pending-append, grown-all, edges-some, walked-runs}
 use Rattle.decided.specs.Decided.{Position, position, Setting, decisionAt, decided, filters}
 use Rattle.decided.specs.JoinLaws.{Joins}
-use Rattle.decided.specs.Runs.{cellRun, joins, longer, joinedFrom, joined, runFilters, runs, positionsOf, allPositions}
+use Rattle.decided.specs.Runs.{cellRun, joins, longer, runFilters, positionsOf, allPositions}
 use Rattle.decided.specs.RunsLaws.{Small, cell-small, longer-small, level-decided, runsOf, runs-positions}
 use Rattle.decided.specs.declared.EdgeRun.{EdgeRun}
 use Rattle.geometry.specs.Coordinates.{shr}
@@ -27,7 +27,7 @@ use Rattle.line.specs.SampleFilteringLaws.{filters-within}
 use Rattle.order.specs.Grid.{keep-if, select, select-append, strip, grid, mem-strip}
 use Rattle.order.specs.Order.{run}
 use Rattle.order.specs.Walk.{run-append, run-strip-next, run-idle}
-use Rattle.positions.specs.Positions.{Placed, sub, alongSub, edgeCount, edgeLen, planeX, planeY}
+use Rattle.positions.specs.Positions.{Placed, alongSub, edgeCount, edgeLen, planeX, planeY}
 use Rattle.positions.specs.PositionsLaws.{plane-vertical, plane-horizontal, cell-along}
 use Rattle.strength.specs.Strength.{strengthOf}
 use Rattle.strength.specs.declared.FilterStrength.{FilterStrength}
@@ -103,35 +103,18 @@ cell-good t pass edge c h k = record {
   ends = cell-along (t .superblock) pass c k;
 }
 
-some-edge : (s : Superblock) (pass : Pass) → 0 < edgeCount s pass
-unfolding edgeCount
-some-edge s pass = by (sub s pass)
-  where
-    by : (b : Bool) → 0 < shr 16 b
-    by true = omega arith
-    by false = omega arith
-
 pub fresh-good : (t : Setting) (pass : Pass) (a : EdgeRun) → Fresh a → Good t pass a
 unfolding edgeLen
 fresh-good t pass a f = record {
   small = record { edge = omega arith; first = omega arith; count = omega arith; size = omega arith; level = omega arith };
   uniform = λ p m. absurd (List·Memᴰ·not-nil (rw (f .count) at m));
-  edge = omega (arith, f .edge, some-edge (t .superblock) pass);
+  edge = omega (arith, f .edge, edges-some (t .superblock) pass);
   ends = by (alongSub (t .superblock) pass);
 }
   where
     by : (b : Bool) → a .first + a .count ≤ shr 64 b
     by true = omega arith
     by false = omega arith
-
--- the first cell starts its edge
-cell-0 : (t : Setting) (pass : Pass) → cellAt t pass 0 0 .first ≡ 0
-unfolding cellRun
-cell-0 t pass = by (alongSub (t .superblock) pass)
-  where
-    by : (b : Bool) → shr (8 * 0) b ≡ 0
-    by true = refl
-    by false = refl
 
 -- a run, as the code filters it: one size and one strength for all its positions
 unfoldable pub runFiltered : WindowShape → Superblock → Pass → (sharpness depth : ℕ) → EdgeRun → List ℕ → List ℕ
@@ -251,16 +234,11 @@ module _ (g : WindowShape) (t : Setting) (pass : Pass) where
   -- the runs that a walk over all cells closes, and the one that it leaves, are the pass
   pub walk-whole : (a : EdgeRun) → Fresh a → (samples : List ℕ)
       → runsDone (pending a (cellsOf t pass) ∷ []) (runsDone (walked a (cellsOf t pass)) samples) ≡ superblockLoopFilter g t pass samples
-  unfolding runsDone runs
+  unfolding runsDone
   walk-whole a f samples =
       runs-done-append (walked a (cellsOf t pass)) (pending a (cellsOf t pass) ∷ []) samples
-      ∙ ap (λ (l : List EdgeRun). run runStep (select runFilters l) samples) (walked-joined a (cellsOf t pass))
-      ∙ ap (λ (l : List EdgeRun). run runStep l samples) (fresh (edgeCount (t .superblock) pass) (some-edge (t .superblock) pass))
+      ∙ ap (λ (l : List EdgeRun). run runStep l samples) (walked-runs (t .superblock) pass (t .chroma) (t .cells) a f)
       ∙ sym (pass-runs samples)
-    where
-      fresh : (n : ℕ) → 0 < n → select runFilters (joinedFrom a (grid (cellAt t pass) n 8)) ≡ select runFilters (joined (grid (cellAt t pass) n 8))
-      fresh zero h = absurd (omega arith)
-      fresh (suc n) h = walked-fresh a (cellAt t pass 0 0) _ f (cell-0 t pass)
 
   -- ---- the walk as the loops make it
 

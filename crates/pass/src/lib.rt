@@ -15,6 +15,7 @@ mod edge;
 pub mod faults;
 
 use decided::no_run;
+use decided::superblock_of;
 use edge::filter_edge;
 use edge::filter_pending;
 use faults::list_faults;
@@ -171,22 +172,14 @@ pub fn superblock_loop_filter_cells(
         cells.len(),
     );
     if let PassAnswer::Done = faults {
-        let chroma = 0 < plane;
-        let s = Superblock {
-            subx: chroma & (sub_x == 1),
-            suby: chroma & (sub_y == 1),
-            cols: mi_cols,
-            rows: mi_rows,
-            row,
-            col,
-        };
+        let s = superblock_of(sub_x, sub_y, mi_cols, mi_rows, row, col, plane);
         return test_lists_and_filter(
             samples,
             g,
             cells,
             s,
             pass_of(pass),
-            chroma,
+            0 < plane,
             sharpness,
             depth,
         );

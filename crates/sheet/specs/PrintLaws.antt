@@ -4,19 +4,18 @@
 use mathlib.Core.Path.{_≡_, refl, sym, ap, _∙_}
 use mathlib.Core.Bool.{Bool, true, false, cond}
 use mathlib.Core.List.{List, [], _∷_, _++_, append-assoc, append-nil}
-use Prim.Native.Nat.{ℕ, zero, suc, _+_, _*_, _≤_, _<_}
+use Prim.Native.Nat.{ℕ, _+_, _*_, _≤_, _<_}
 use native.Mathlib.Omega.{arith}
 use borrow.Author.Tests.{lt-ltb, le-ltb}
 use lib.ListN.{length, length-append}
-use Rattle.decided.specs.JoinLaws.{joins-true}
-use Rattle.decided.specs.Runs.{cellRun, joins, longer, joinedFrom, joined, runFilters, runs}
+use Rattle.decided.specs.CellWalk.{Fresh, closed, grown, walked, pending, walked-one, pending-one, walked-append, pending-append, walked-runs}
+use Rattle.decided.specs.Runs.{cellRun, joins, longer, runFilters, runs}
 use Rattle.decided.specs.RunsLaws.{Small}
 use Rattle.decided.specs.declared.EdgeRun.{EdgeRun}
-use Rattle.geometry.specs.Coordinates.{shr}
 use Rattle.geometry.specs.declared.Pass.{Pass}
 use Rattle.geometry.specs.declared.Superblock.{Superblock}
-use Rattle.order.specs.Grid.{keep-if, select, strip, grid, strip-split, strips-split, grid-length, strip-length}
-use Rattle.positions.specs.Positions.{sub, alongSub, edgeCount}
+use Rattle.order.specs.Grid.{keep-if, select, select-append, strip, grid, strip-split, strips-split, grid-length, strip-length}
+use Rattle.positions.specs.Positions.{edgeCount}
 use Rattle.text.specs.Text.{Put}
 use Rattle.text.specs.TextLaws.{written-none, written-length, put-then}
 use Rattle.sheet.specs.Sheet.{runLine, runLines}
@@ -26,26 +25,14 @@ use Rattle.sheet.specs.declared.runs.Printed.{Printed}
 unfoldable pub pendingText : EdgeRun → List ℕ
 pendingText a = cond (runFilters a) (runLine a) []
 
--- what is printed when the cell b arrives, and the run that is pending then
-unfoldable pub addedText : (a b : EdgeRun) → List ℕ
-addedText a b = cond (joins a b) [] (pendingText a)
-
-unfoldable pub grown : (a b : EdgeRun) → EdgeRun
-grown a b = cond (joins a b) (longer a (b .count)) b
-
--- the same for cells that arrive one after the other
+-- the lines of the runs that cells close when they arrive while a is pending
 unfoldable pub fedText : EdgeRun → List EdgeRun → List ℕ
-fedText a [] = []
-fedText a (b ∷ l) = addedText a b ++ fedText (grown a b) l
-
-unfoldable pub fedPending : EdgeRun → List EdgeRun → EdgeRun
-fedPending a [] = a
-fedPending a (b ∷ l) = fedPending (grown a b) l
+fedText a l = runLines (select runFilters (walked a l))
 
 -- the cells l arrived at p: their text was written over before, and r is where it ends
 pub record Fed (l : List EdgeRun) (p : Printed) (before after : List ℕ) (r : Printed) : Type 0 where
   pub put : Put (p .at) (fedText (p .pending) l) before after (r .at)
-  pub pending : r .pending ≡ fedPending (p .pending) l
+  pub pending-is : r .pending ≡ pending (p .pending) l
   pub small : Small (r .pending)
   pub near : r .at ≤ p .at + 15 * length l
 
@@ -62,46 +49,71 @@ pub pending-none : (a : EdgeRun) (at : ℕ) (out : List ℕ) → a .level ≤ 0 
 unfolding pendingText
 pending-none a at out h = rw (le-ltb 0 (a .level) h) (put-none at out)
 
+pending-lines : (a : EdgeRun) → pendingText a ≡ runLines (select runFilters (a ∷ []))
+unfolding pendingText runLines
+pending-lines a = by (runFilters a)
+  where
+    by : (b : Bool) → cond b (runLine a) [] ≡ runLines (keep-if b a [])
+    by true = sym (append-nil (runLine a))
+    by false = refl
+
+lines-none : [] ≡ runLines []
+unfolding runLines
+lines-none = refl
+
 -- the cell b, which the code has as next, is joined, or is pending in place of the run that was
 module _ (p : Printed) {next b : EdgeRun} (e : next ≡ b) where
   pub fed-joins : (out : List ℕ) {more : EdgeRun} → joins (p .pending) next ≡ true → (more ≡ longer (p .pending) (next .count)) × Small more
       → Fed (b ∷ []) p out out (record { at = p .at; pending = more })
-  unfolding fedText fedPending addedText grown
+  unfolding fedText closed grown
   fed-joins out h made =
       let j : joins (p .pending) b ≡ true = rw e at h in
-      record { put = rw j (put-none (p .at) out); pending = rw j (rw e at (made .0)); small = made .1; near = omega arith }
+      record {
+        put = rw (← walked-one (p .pending) b, j, ← lines-none) (put-none (p .at) out);
+        pending-is = rw (← pending-one (p .pending) b, j) (rw e at (made .0));
+        small = made .1;
+        near = omega arith;
+      }
 
   pub fed-parts : {before after : List ℕ} {end : ℕ} → joins (p .pending) next ≡ false → Small next
       → Put (p .at) (pendingText (p .pending)) before after end × (end ≤ p .at + 15) → Fed (b ∷ []) p before after (record { at = end; pending = next })
-  unfolding fedText fedPending addedText grown
+  unfolding fedText closed grown
   fed-parts h small put =
       let j : joins (p .pending) b ≡ false = rw e at h in
-      record { put = rw (j, append-nil (pendingText (p .pending))) (put .0); pending = rw j e; small = small; near = put .1 }
+      record {
+        put = rw (← walked-one (p .pending) b, j, ← pending-lines (p .pending)) (put .0);
+        pending-is = rw (← pending-one (p .pending) b, j) e;
+        small = small;
+        near = put .1;
+      }
 
 -- ---- cells, and the next behind them
 
-fed-text-append : (a : EdgeRun) (l m : List EdgeRun) → fedText a (l ++ m) ≡ fedText a l ++ fedText (fedPending a l) m
-unfolding fedText fedPending
-fed-text-append a [] m = refl
-fed-text-append a (b ∷ l) m =
-    ap (λ (t : List ℕ). addedText a b ++ t) (fed-text-append (grown a b) l m)
-    ∙ sym (append-assoc (addedText a b) (fedText (grown a b) l) (fedText (fedPending (grown a b) l) m))
+lines-append : (l m : List EdgeRun) → runLines (l ++ m) ≡ runLines l ++ runLines m
+unfolding runLines
+lines-append [] m = refl
+lines-append (a ∷ l) m = ap (λ (t : List ℕ). runLine a ++ t) (lines-append l m) ∙ sym (append-assoc (runLine a) (runLines l) (runLines m))
 
-fed-pending-append : (a : EdgeRun) (l m : List EdgeRun) → fedPending a (l ++ m) ≡ fedPending (fedPending a l) m
-unfolding fedPending
-fed-pending-append a [] m = refl
-fed-pending-append a (b ∷ l) m = fed-pending-append (grown a b) l m
+fed-text-append : (a : EdgeRun) (l m : List EdgeRun) → fedText a (l ++ m) ≡ fedText a l ++ fedText (pending a l) m
+unfolding fedText
+fed-text-append a l m =
+    ap (λ (r : List EdgeRun). runLines (select runFilters r)) (walked-append a l m)
+    ∙ ap runLines (select-append runFilters (walked a l) (walked (pending a l) m))
+    ∙ lines-append (select runFilters (walked a l)) (select runFilters (walked (pending a l) m))
+
+pub fresh-small : (a : EdgeRun) → Fresh a → Small a
+fresh-small a f = record { edge = omega arith; first = omega arith; count = omega arith; size = omega arith; level = omega arith }
 
 pub fed-none : (p : Printed) (out : List ℕ) → Small (p .pending) → Fed [] p out out p
-unfolding fedText fedPending
-fed-none p out small = record { put = put-none (p .at) out; pending = refl; small = small; near = omega arith }
+unfolding fedText walked pending runLines
+fed-none p out small = record { put = put-none (p .at) out; pending-is = refl; small = small; near = omega arith }
 
 pub fed-then : {l m : List EdgeRun} {p q r : Printed} {before between after : List ℕ}
     → Fed l p before between q → Fed m q between after r → Fed (l ++ m) p before after r
 fed-then {l} {m} {p} {before = before} f g =
     record {
-      put = rw (fed-text-append (p .pending) l m) (put-then (p .at) _ _ before (f .put) (rw (f .pending) at (g .put)));
-      pending = g .pending ∙ ap (λ (a : EdgeRun). fedPending a m) (f .pending) ∙ sym (fed-pending-append (p .pending) l m);
+      put = rw (fed-text-append (p .pending) l m) (put-then (p .at) _ _ before (f .put) (rw (f .pending-is) at (g .put)));
+      pending-is = g .pending-is ∙ ap (λ (a : EdgeRun). pending a m) (f .pending-is) ∙ sym (pending-append (p .pending) l m);
       small = g .small;
       near = omega (arith, f .near, g .near, length-append l m);
     }
@@ -109,54 +121,7 @@ fed-then {l} {m} {p} {before = before} f g =
 pub fed-length : {l : List EdgeRun} {p q : Printed} {before after : List ℕ} → Fed l p before after q → length after ≡ length before
 fed-length {l} {p} {before = before} f = ap length (f .put .0) ∙ written-length (p .at) (fedText (p .pending) l) before
 
--- ---- all cells: what was printed, and the run that is left pending, are the runs that filter
-
-kept-lines : (a : EdgeRun) (l : List EdgeRun) → pendingText a ++ runLines (select runFilters l) ≡ runLines (select runFilters (a ∷ l))
-unfolding pendingText runLines
-kept-lines a l = by (runFilters a)
-  where
-    by : (b : Bool) → cond b (runLine a) [] ++ runLines (select runFilters l) ≡ runLines (keep-if b a (select runFilters l))
-    by true = refl
-    by false = refl
-
-abbrev wholeText : EdgeRun → List EdgeRun → List ℕ
-wholeText a l = fedText a l ++ pendingText (fedPending a l)
-
-whole-lines : (a : EdgeRun) (l : List EdgeRun) → wholeText a l ≡ runLines (select runFilters (joinedFrom a l))
-unfolding fedText fedPending joinedFrom addedText grown runLines
-whole-lines a [] = sym (append-nil (pendingText a)) ∙ kept-lines a []
-whole-lines a (b ∷ l) = by (joins a b) (whole-lines (longer a (b .count)) l) (whole-lines b l)
-  where
-    by : (t : Bool) → wholeText (longer a (b .count)) l ≡ runLines (select runFilters (joinedFrom (longer a (b .count)) l))
-        → wholeText b l ≡ runLines (select runFilters (joinedFrom b l))
-        → (cond t [] (pendingText a) ++ fedText (cond t (longer a (b .count)) b) l) ++ pendingText (fedPending (cond t (longer a (b .count)) b) l)
-        ≡ runLines (select runFilters (cond t (joinedFrom (longer a (b .count)) l) (a ∷ joinedFrom b l)))
-    by true e f = e
-    by false e f =
-        append-assoc (pendingText a) (fedText b l) (pendingText (fedPending b l))
-        ∙ ap (λ (t : List ℕ). pendingText a ++ t) f
-        ∙ kept-lines a (joinedFrom b l)
-
--- a run of no level that stands before the first cell, and does not end there, leaves no trace
-fresh-lines : (a b : EdgeRun) (l : List EdgeRun) → 0 < a .first → a .level ≡ 0 → b .first ≡ 0
-    → wholeText a (b ∷ l) ≡ runLines (select runFilters (joinedFrom b l))
-unfolding joinedFrom
-fresh-lines a b l f none g = whole-lines a (b ∷ l) ∙ by (joins a b) refl
-  where
-    by : (t : Bool) → joins a b ≡ t
-        → runLines (select runFilters (cond t (joinedFrom (longer a (b .count)) l) (a ∷ joinedFrom b l))) ≡ runLines (select runFilters (joinedFrom b l))
-    by true e = absurd (omega (arith, joins-true a b e .first))
-    by false e = rw none
-
 -- ---- the cells of a pass
-
-some-edge : (b : Bool) → 0 < shr 16 b
-some-edge true = omega arith
-some-edge false = omega arith
-
-first-none : (b : Bool) → shr (8 * 0) b ≡ 0
-first-none true = refl
-first-none false = refl
 
 module _ (s : Superblock) (pass : Pass) (chroma : Bool) (cells : List ℕ) where
   abbrev cellAt : (edge c : ℕ) → EdgeRun
@@ -178,16 +143,15 @@ module _ (s : Superblock) (pass : Pass) (chroma : Bool) (cells : List ℕ) where
       → Fed (grid cellAt edge 8) p before between q → Fed (strip cellAt edge 0 8) q between after r → Fed (grid cellAt (edge + 1) 8) p before after r
   fed-grid edge f g = rw (strips-split cellAt 0 edge 1 8 edge (omega arith), append-nil (strip cellAt edge 0 8)) (fed-then f g)
 
-  runs-lines : (a : EdgeRun) → 0 < a .first → a .level ≡ 0 → wholeText a (grid cellAt (edgeCount s pass) 8) ≡ runLines (runs s pass chroma cells)
-  unfolding cellRun runs edgeCount
-  runs-lines a f none = by (edgeCount s pass) (some-edge (sub s pass))
-    where
-      by : (n : ℕ) → 0 < n → wholeText a (grid cellAt n 8) ≡ runLines (select runFilters (joined (grid cellAt n 8)))
-      by (suc n) h = fresh-lines a (cellAt 0 0) _ f none (first-none (alongSub s pass))
-
   -- all cells, and then the run that is left pending
-  pub fed-all : {p q : Printed} {before between after : List ℕ} {end : ℕ} → 0 < p .pending .first → p .pending .level ≡ 0
+  pub fed-all : {p q : Printed} {before between after : List ℕ} {end : ℕ} → Fresh (p .pending)
       → Fed (grid cellAt (edgeCount s pass) 8) p before between q → Put (q .at) (pendingText (q .pending)) between after end
       → Put (p .at) (runLines (runs s pass chroma cells)) before after end
-  fed-all {p} {before = before} f none fed last =
-      rw (← runs-lines (p .pending) f none) (put-then (p .at) _ _ before (fed .put) (rw (fed .pending) at last))
+  unfolding fedText
+  fed-all {p} {before = before} fresh fed last =
+      let l = grid cellAt (edgeCount s pass) 8 in
+      let all : fedText (p .pending) l ++ pendingText (pending (p .pending) l) ≡ runLines (runs s pass chroma cells) =
+      ap (λ (t : List ℕ). fedText (p .pending) l ++ t) (pending-lines (pending (p .pending) l))
+      ∙ sym (lines-append (select runFilters (walked (p .pending) l)) (select runFilters (pending (p .pending) l ∷ [])))
+      ∙ ap runLines (sym (select-append runFilters (walked (p .pending) l) (pending (p .pending) l ∷ [])) ∙ walked-runs s pass chroma cells (p .pending) fresh) in
+      rw (← all) (put-then (p .at) _ _ before (fed .put) (rw (fed .pending-is) at last))

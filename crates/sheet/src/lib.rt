@@ -17,8 +17,8 @@ mod runs;
 use cells::any_bad_word_unchecked;
 use cells::bytes::words_at_unchecked;
 use cells::first_bad_word_unchecked;
+use decided::superblock_of;
 use edges::decision::first_levelless_unchecked;
-use geometry::Superblock;
 use geometry::cell_count_unchecked;
 use header::SheetHeader;
 use header::bad_header;
@@ -39,21 +39,6 @@ pub enum SheetAnswer {
     Room,
 }
 
-// Plane 0 counts as not subsampled.
-fn superblock_of(h: SheetHeader) -> Superblock
-    ensures { λ r. ⌜ r ≡ sheetSetting h [] .superblock ⌝ }
-{
-    let chroma = 0 < h.plane;
-    Superblock {
-        subx: chroma & (h.subx == 1),
-        suby: chroma & (h.suby == 1),
-        cols: h.cols,
-        rows: h.rows,
-        row: h.row,
-        col: h.col,
-    }
-}
-
 // 11 and 14 are tested, and then the runs are printed.
 fn print_cells(out: &mut [u8], h: SheetHeader, cells: &[u32]) -> usize
     requires { ⌜ Header h × Placed (sheetSetting h [] .superblock) × (cellsFrom (h .row) (h .cols) (h .rows) ≤ length (now cells)) × (h .cols ≤ 1024) ⌝ }
@@ -63,7 +48,7 @@ fn print_cells(out: &mut [u8], h: SheetHeader, cells: &[u32]) -> usize
     if any_bad_word_unchecked(cells, count) {
         return print_refusal(out, 11, first_bad_word_unchecked(cells, count));
     }
-    let s = superblock_of(h);
+    let s = superblock_of(h.subx, h.suby, h.cols, h.rows, h.row, h.col, h.plane);
     let pass = pass_of(h.pass);
     let chroma = 0 < h.plane;
     let place = first_levelless_unchecked(cells, s, pass, chroma);

@@ -16,6 +16,7 @@ use decided::EdgeRun;
 use decided::cell_run_unchecked;
 use decided::joins_unchecked;
 use decided::longer_unchecked;
+use decided::no_run;
 use geometry::Pass;
 use geometry::Superblock;
 use positions::edge_count;
@@ -81,19 +82,6 @@ fn print_edge(
         p = print_cell(out, p, cells, s, pass, chroma, edge, c);
     }
     p
-}
-
-// The run that stands before the first cell: it joins with none.
-fn no_run() -> EdgeRun
-    ensures { λ r. ⌜ Small r × (0 < r .first) × (r .level ≡ 0) ⌝ }
-{
-    EdgeRun {
-        edge: 0,
-        first: 1,
-        count: 0,
-        size: 0,
-        level: 0,
-    }
 }
 
 pub(crate) fn print_runs(

@@ -5,7 +5,7 @@ use native.Mathlib.Omega.{arith}
 use Rattle.decided.specs.Runs.{cellRun}
 use Rattle.order.specs.Grid.{grid}
 use Rattle.positions.specs.Positions.{edgeCount}
-use Rattle.sheet.specs.PrintLaws.{Fed, fed-none, fed-length, fed-grid, grid-near, fed-all}
+use Rattle.sheet.specs.PrintLaws.{Fed, fresh-small, fed-none, fed-length, fed-grid, grid-near, fed-all}
 use Rattle.sheet.proofs.runs.print_runs.Statement.{statement}
 use Rattle.sheet.proofs.runs.print_runs.Tie as tie
 
@@ -16,7 +16,7 @@ abbrev μ-loop : tie.MeasureT-loop
 μ-loop out₀ at cells s pass chroma p₀ edge₀ edge-end out p edge = edge-end - edge
 
 loop-holds : tie.Need-loop-holds Inv-loop μ-loop
-loop-holds c = (omega arith, fed-none _ _ (c .before .no-run .ensures .0))
+loop-holds c = (omega arith, fed-none _ _ (fresh-small _ (c .before .no-run .ensures)))
 
 print-edge-requires : tie.Need-print-edge-requires Inv-loop μ-loop
 print-edge-requires c κs =
@@ -54,7 +54,7 @@ returns c =
     let none = count .before .no-run .ensures in
     let a = count .before .before .before .before .args in
     let all : loop .edge ≡ edgeCount (a .s) (a .pass) = omega (arith, count .edge-count .ensures .0) in
-    fed-all (a .s) (a .pass) (a .chroma) (a .cells .now) (none .1) (none .2) (rw all at (loop .inv .1)) (c .before .before .print-pending .ensures .0)
+    fed-all (a .s) (a .pass) (a .chroma) (a .cells .now) none (rw all at (loop .inv .1)) (c .before .before .print-pending .ensures .0)
 
 pub print-runs-spec : {M : Type 1} → statement M
 print-runs-spec =
