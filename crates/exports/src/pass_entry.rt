@@ -1,8 +1,10 @@
 // One pass over one superblock of a plane.
 ghost use mathlib.Core.Path.{_≡_};
 ghost use Prim.Native.Nat.{_≤_};
-ghost use Rattle.base.specs.Outcome.{accepted, returned, Answers};
-ghost use Rattle.pass.specs.Pass.{superblockLoopFilterCells, returnedOf};
+ghost use Rattle.base.specs.Outcome.{accepted, Answers};
+ghost use Rattle.decided.specs.Decided.{settingOf};
+ghost use Rattle.pass.specs.Pass.{superblockLoopFilter, superblockLoopFilterCells, returnedOf};
+ghost use Rattle.positions.specs.Positions.{passOf};
 ghost use Rattle.exports.specs.Border.{numbersOf};
 use crate::border::Refusal;
 use crate::border::numbers;
@@ -87,7 +89,7 @@ pub extern "C" fn springspade_pass_unchecked(
     stride: usize,
     y_origin: usize,
 )
-    requires { ⌜ returned (superblockLoopFilterCells (record { width = width; height = height; stride = stride; top = «y_origin» }) sharpness depth «sub_x» «sub_y» «mi_cols» «mi_rows» row col plane pass (now cells) (now samples)) .number ≡ 0 ⌝ }
+    requires { ⌜ superblockLoopFilterCells (record { width = width; height = height; stride = stride; top = «y_origin» }) sharpness depth «sub_x» «sub_y» «mi_cols» «mi_rows» row col plane pass (now cells) (now samples) ≡ accepted (superblockLoopFilter (record { width = width; height = height; stride = stride; top = «y_origin» }) (settingOf sharpness depth «sub_x» «sub_y» «mi_cols» «mi_rows» row col plane (now cells)) (passOf pass) (now samples)) ⌝ }
     ensures { λ r. ⌜ accepted (now (samples .exit)) ≡ superblockLoopFilterCells (record { width = width; height = height; stride = stride; top = «y_origin» }) sharpness depth «sub_x» «sub_y» «mi_cols» «mi_rows» row col plane pass (now (cells .entry)) (now (samples .entry)) ⌝ }
 {
     let g = WindowShape {

@@ -11,7 +11,7 @@ use Rattle.window.specs.RangeLaws.{InRange, tested-range}
 use Rattle.window.specs.declared.WindowShape.{WindowShape}
 use Rattle.pass.specs.Pass.{superblockLoopFilter, superblockLoopFilterCells}
 use Rattle.pass.specs.PassLaws.{ran}
-use Rattle.pass.specs.WorkLaws.{steps-range}
+use Rattle.pass.specs.WorkLaws.{Ready, steps-range}
 
 -- of the operation: where it accepts, the samples of its result are in range
 pub pass-range : (g : WindowShape) (sharpness depth subX subY miCols miRows row col plane pass : ℕ) (cells samples result : List ℕ)
@@ -22,3 +22,18 @@ pass-range g sharpness depth subX subY miCols miRows row col plane pass cells sa
     let r = ran g sharpness depth subX subY miCols miRows row col plane pass cells samples result e in
     rw (r .result-is)
     (steps-range g (length samples) (r .lists .window-lent) t (passOf pass) (r .numbers .depth-known) (decided t (passOf pass)) samples (tested-range g (2 ^ depth) samples (r .lists .samples-good)))
+
+-- a pass that is accepted has all that the work asks for
+pub accepted-ready : (g : WindowShape) (sharpness depth subX subY miCols miRows row col plane pass : ℕ) (cells samples result : List ℕ)
+    → superblockLoopFilterCells g sharpness depth subX subY miCols miRows row col plane pass cells samples ≡ accepted result
+    → Ready g (settingOf sharpness depth subX subY miCols miRows row col plane cells) samples
+accepted-ready g sharpness depth subX subY miCols miRows row col plane pass cells samples result e =
+    let r = ran g sharpness depth subX subY miCols miRows row col plane pass cells samples result e in
+    record {
+      window = r .lists .window-lent;
+      range = tested-range g (2 ^ depth) samples (r .lists .samples-good);
+      placed = r .numbers .placed-at _ _;
+      cells = r .numbers .cells-lent;
+      sharpness = r .numbers .sharpness-fits;
+      depth = r .numbers .depth-known;
+    }
