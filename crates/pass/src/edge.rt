@@ -10,6 +10,7 @@ ghost use Rattle.decided.specs.Runs.{cellRun};
 ghost use Rattle.decided.specs.RunsLaws.{Small};
 ghost use Rattle.order.specs.Grid.{strip};
 ghost use Rattle.positions.specs.Positions.{Placed, edgeCount};
+ghost use Rattle.strength.specs.StrengthLaws.{Limits};
 ghost use Rattle.window.specs.RangeLaws.{InRange};
 ghost use Rattle.window.specs.WindowLaws.{Lent};
 ghost use Rattle.pass.specs.WorkLaws.{Ready, Good, runFiltered, Walk};
@@ -22,7 +23,7 @@ use geometry::Superblock;
 use positions::plane_x_unchecked;
 use positions::plane_y_unchecked;
 use runs::filter_run_unchecked;
-use strength::strength_unchecked;
+use strength::strength_by_unchecked;
 use window::WindowShape;
 
 // Level 0 filters nothing.
@@ -33,15 +34,16 @@ pub(crate) fn filter_pending(
     pass: Pass,
     sharpness: u8,
     depth: u8,
+    limits: &[u8; 512],
     a: EdgeRun,
 )
-    requires { ⌜ Lent g (length (now samples)) × InRange g (2 ^ depth) (now samples) × Placed s × Small a × (sharpness ≤ 7) × (supported depth ≡ true) ⌝ }
+    requires { ⌜ Lent g (length (now samples)) × InRange g (2 ^ depth) (now samples) × Placed s × Small a × (sharpness ≤ 7) × (supported depth ≡ true) × Limits (now limits) ⌝ }
     ensures { λ r. ⌜ now (samples .exit) ≡ runFiltered g s pass sharpness depth a (now (samples .entry)) ⌝ }
 {
     if 0 < a.level {
         let x = plane_x_unchecked(s, pass, a.edge, a.first);
         let y = plane_y_unchecked(s, pass, a.edge, a.first);
-        let strength = strength_unchecked(a.level, sharpness);
+        let strength = strength_by_unchecked(limits, a.level, sharpness);
         filter_run_unchecked(samples, g, pass, x, y, a.count, depth, a.size, strength);
     }
 }
@@ -56,18 +58,19 @@ fn filter_cell(
     chroma: bool,
     sharpness: u8,
     depth: u8,
+    limits: &[u8; 512],
     edge: usize,
     c: usize,
     pending: EdgeRun,
 ) -> EdgeRun
-    requires { ⌜ Ready g (setting s chroma sharpness depth (now cells)) (now samples) × (edge < edgeCount s pass) × (c < 8) × Good (setting s chroma sharpness depth (now cells)) pass pending ⌝ }
+    requires { ⌜ Ready g (setting s chroma sharpness depth (now cells)) (now samples) × (edge < edgeCount s pass) × (c < 8) × Good (setting s chroma sharpness depth (now cells)) pass pending × Limits (now limits) ⌝ }
     ensures { λ r. ⌜ Walk g (setting s chroma sharpness depth (now (cells .entry))) pass (cellRun s pass chroma (now (cells .entry)) edge c ∷ []) pending (now (samples .entry)) (now (samples .exit)) r ⌝ }
 {
     let next = cell_run_unchecked(cells, s, pass, chroma, edge, c);
     if joins_unchecked(pending, next) {
         return longer_unchecked(pending, next.count);
     }
-    filter_pending(samples, g, s, pass, sharpness, depth, pending);
+    filter_pending(samples, g, s, pass, sharpness, depth, limits, pending);
     next
 }
 
@@ -80,10 +83,11 @@ pub(crate) fn filter_edge(
     chroma: bool,
     sharpness: u8,
     depth: u8,
+    limits: &[u8; 512],
     edge: usize,
     start: EdgeRun,
 ) -> EdgeRun
-    requires { ⌜ Ready g (setting s chroma sharpness depth (now cells)) (now samples) × (edge < edgeCount s pass) × Good (setting s chroma sharpness depth (now cells)) pass start ⌝ }
+    requires { ⌜ Ready g (setting s chroma sharpness depth (now cells)) (now samples) × (edge < edgeCount s pass) × Good (setting s chroma sharpness depth (now cells)) pass start × Limits (now limits) ⌝ }
     ensures { λ r. ⌜ Walk g (setting s chroma sharpness depth (now (cells .entry))) pass (strip (cellRun s pass chroma (now (cells .entry))) edge 0 8) start (now (samples .entry)) (now (samples .exit)) r ⌝ }
 {
     let mut pending = start;
@@ -97,6 +101,7 @@ pub(crate) fn filter_edge(
             chroma,
             sharpness,
             depth,
+            limits,
             edge,
             c,
             pending,

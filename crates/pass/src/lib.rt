@@ -24,6 +24,7 @@ use geometry::Pass;
 use geometry::Superblock;
 use positions::edge_count;
 use positions::pass_of;
+use strength::limits_table;
 use window::WindowShape;
 
 // What became of a pass: it was run, or refused.
@@ -100,6 +101,7 @@ pub fn superblock_loop_filter_unchecked(
     ensures { λ r. ⌜ now (samples .exit) ≡ superblockLoopFilter g (setting s chroma sharpness depth (now (cells .entry))) pass (now (samples .entry)) ⌝ }
 {
     let count = edge_count(s, pass);
+    let limits = limits_table();
     let mut pending = no_run();
     for edge in 0..count {
         pending = filter_edge(
@@ -111,11 +113,12 @@ pub fn superblock_loop_filter_unchecked(
             chroma,
             sharpness,
             depth,
+            &limits,
             edge,
             pending,
         );
     }
-    filter_pending(samples, g, s, pass, sharpness, depth, pending);
+    filter_pending(samples, g, s, pass, sharpness, depth, &limits, pending);
 }
 
 // The numbers are tested: now the lists, and then the work.

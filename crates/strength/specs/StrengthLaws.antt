@@ -2,11 +2,13 @@
 -- Assumes nothing.
 use mathlib.Core.Path.{_≡_, refl}
 use mathlib.Core.Bool.{Bool, true, false, cond, _||_}
-use Prim.Native.Nat.{ℕ, _-_, _/_, _≤_, _<_, max}
+use mathlib.Core.List.{List}
+use Prim.Native.Nat.{ℕ, _+_, _-_, _*_, _/_, _≤_, _<_, max}
 use native.Mathlib.Nat.{div-le-self}
 use native.Mathlib.Omega.{arith}
 use lib.Dec.{eqb, ltb}
 use lib.IntN.{pos, natAbs}
+use lib.ListN.{length, getD}
 use Rattle.base.specs.Notation.{Clip3}
 use Rattle.base.specs.NotationLaws.{clip-below}
 use Rattle.strength.specs.Strength.{modeType, limitOf}
@@ -34,3 +36,8 @@ limit-small lvl sharpness h = cases (ltb 0 sharpness) refl
     cases : (t : Bool) → ltb 0 sharpness ≡ t → limitOf lvl sharpness ≤ 63
     cases true e = rw e (clipped _)
     cases false e = rw e (shifted _)
+
+-- the 512 limits, at sharpness times 64 plus level
+pub record Limits (l : List ℕ) : Type 0 where
+  pub long : length l ≡ 512
+  pub limit : (lvl sharpness : ℕ) → lvl ≤ 63 → sharpness ≤ 7 → getD l (sharpness * 64 + lvl) 0 ≡ limitOf lvl sharpness

@@ -1,7 +1,8 @@
 // The strength of a filter level (8.8.4), in the order of the Rust's adaptive_filter_strength.rs.
 ghost use mathlib.Core.Path.{_≡_};
 ghost use Prim.Native.Nat.{_≤_};
-ghost use Rattle.strength.specs.Strength.{modeType, limitOf, strengthOf, strengthFor, outcomeOf};
+ghost use Rattle.strength.specs.Strength.{modeType, strengthOf, strengthFor, outcomeOf};
+ghost use Rattle.strength.specs.StrengthLaws.{Limits};
 
 mod limits;
 
@@ -41,20 +42,19 @@ pub fn mode_to_mode_type(mode: u8) -> usize
     }
 }
 
-fn limit_unchecked(lvl: u8, sharpness: u8) -> u8
-    requires { ⌜ (lvl ≤ 63) × (sharpness ≤ 7) ⌝ }
-    ensures { λ r. ⌜ r ≡ limitOf lvl sharpness ⌝ }
+// A caller with many levels takes the limits once: the compiler lays a constant array on the stack where it is read.
+pub fn limits_table() -> [u8; 512]
+    ensures { λ r. ⌜ Limits r ⌝ }
 {
-    let at = sharpness as usize * 64 + lvl as usize;
-    LIMITS[at]
+    LIMITS
 }
 
-// The work without the tests, for a caller that has made them.
-pub fn strength_unchecked(lvl: u8, sharpness: u8) -> FilterStrength
-    requires { ⌜ (lvl ≤ 63) × (sharpness ≤ 7) ⌝ }
+// The work without the tests, by a table that limits_table gave.
+pub fn strength_by_unchecked(limits: &[u8; 512], lvl: u8, sharpness: u8) -> FilterStrength
+    requires { ⌜ Limits (now limits) × (lvl ≤ 63) × (sharpness ≤ 7) ⌝ }
     ensures { λ r. ⌜ r ≡ strengthOf lvl sharpness ⌝ }
 {
-    let limit = limit_unchecked(lvl, sharpness);
+    let limit = limits[sharpness as usize * 64 + lvl as usize];
     FilterStrength {
         lvl,
         limit,
@@ -73,5 +73,5 @@ pub fn strength_for_level(lvl: u8, sharpness: u8) -> StrengthAnswer
     if 63 < lvl {
         return StrengthAnswer::Level;
     }
-    StrengthAnswer::Done(strength_unchecked(lvl, sharpness))
+    StrengthAnswer::Done(strength_by_unchecked(&limits_table(), lvl, sharpness))
 }

@@ -32,7 +32,7 @@ returns c =
 filter-pending-requires : tie.Need-filter-pending-requires
 filter-pending-requires c κs =
     let p = c .before .before .before .before .before .before .pre in
-    (p .0 .window, p .0 .range, p .0 .placed, p .3 .small, p .0 .sharpness, p .0 .depth)
+    (p .0 .window, p .0 .range, p .0 .placed, p .3 .small, p .0 .sharpness, p .0 .depth, p .4)
 
 returns-2 : tie.Need-returns-2
 returns-2 c =

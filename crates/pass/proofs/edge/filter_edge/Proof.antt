@@ -11,11 +11,11 @@ use Rattle.pass.proofs.edge.filter_edge.Statement.{statement}
 use Rattle.pass.proofs.edge.filter_edge.Tie as tie
 
 abbrev Inv-loop : tie.InvT-loop
-Inv-loop samples₀ g cells s pass chroma sharpness depth edge start c₀ samples pending c =
+Inv-loop samples₀ g cells s pass chroma sharpness depth limits edge start c₀ samples pending c =
     (c ≤ 8) × Walk g (setting s chroma sharpness depth cells) pass (strip (cellRun s pass chroma cells) edge 0 c) start samples₀ samples pending
 
 abbrev μ-loop : tie.MeasureT-loop
-μ-loop samples₀ g cells s pass chroma sharpness depth edge start c₀ samples pending c = 8 - c
+μ-loop samples₀ g cells s pass chroma sharpness depth limits edge start c₀ samples pending c = 8 - c
 
 -- the setting of the call
 abbrev given : tie.Start Inv-loop μ-loop → Setting
@@ -28,7 +28,7 @@ filter-cell-requires : tie.Need-filter-cell-requires Inv-loop μ-loop
 filter-cell-requires c κs =
     let start = c .before .before .before .before .before in
     let loop = c .before .before .loop in
-    (walk-ready (start .args .g) (given start) (start .args .pass) _ (loop .inv .1) (start .pre .0), start .pre .1, c .before .loop-test .taken, loop .inv .1 .good)
+    (walk-ready (start .args .g) (given start) (start .args .pass) _ (loop .inv .1) (start .pre .0), start .pre .1, c .before .loop-test .taken, loop .inv .1 .good, start .pre .3)
 
 loop-again : tie.Need-loop-again Inv-loop μ-loop
 loop-again c =

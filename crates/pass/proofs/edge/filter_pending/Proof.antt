@@ -4,6 +4,9 @@ use Rattle.pass.specs.WorkLaws.{filtered-on, filtered-off}
 use Rattle.pass.proofs.edge.filter_pending.Statement.{statement}
 use Rattle.pass.proofs.edge.filter_pending.Tie as tie
 
+strength-by-unchecked-requires : tie.Need-strength-by-unchecked-requires
+strength-by-unchecked-requires c κs = let p = c .before .before .before .before .before .pre in (p .6, p .3 .level, p .4)
+
 filter-run-unchecked-requires : tie.Need-filter-run-unchecked-requires
 filter-run-unchecked-requires c κs =
     let p = c .before .before .before .before .before .before .before .pre in
@@ -13,7 +16,7 @@ returns : tie.Need-returns
 returns c =
     let a = c .before .before .before .before .before .before .before .before .before .before .args in
     filtered-on (a .g) (a .s) (a .pass) (a .sharpness) (a .depth) (a .a) (c .before .before .before .before .before .before .before .if1 .taken) _ _ _
-    (c .before .before .before .before .before .before .plane-x-unchecked .ensures .0) (c .before .before .before .before .before .plane-y-unchecked .ensures .0) (c .before .before .before .before .strength-unchecked .ensures) _ _ (c .before .before .filter-run-unchecked .ensures)
+    (c .before .before .before .before .before .before .plane-x-unchecked .ensures .0) (c .before .before .before .before .before .plane-y-unchecked .ensures .0) (c .before .before .before .before .strength-by-unchecked .ensures) _ _ (c .before .before .filter-run-unchecked .ensures)
 
 returns-2 : tie.Need-returns-2
 returns-2 c =
@@ -21,4 +24,4 @@ returns-2 c =
     filtered-off (a .g) (a .s) (a .pass) (a .sharpness) (a .depth) (a .a) _ (omega (arith, c .if1 .left))
 
 pub filter-pending-spec : {M : Type 1} → statement M
-filter-pending-spec = tie.close (tie.spec (search needs) (search needs) (search needs) filter-run-unchecked-requires (search needs) returns returns-2)
+filter-pending-spec = tie.close (tie.spec (search needs) (search needs) strength-by-unchecked-requires filter-run-unchecked-requires (search needs) returns returns-2)

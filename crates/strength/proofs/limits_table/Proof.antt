@@ -1,14 +1,13 @@
 -- The table's rule: one test that is computed over its 512 entries, and the rule's law at the entry read.
 -- Assumes nothing.
-use borrow.Author.Needs.{needs}
-use mathlib.Core.Path.{_≡_}
+use mathlib.Core.Path.{_≡_, refl}
 use native.Mathlib.Omega.{arith}
 use Prim.Native.Nat.{ℕ, _+_, _*_, _/_, _%_, _≤_, _<_}
 use Rattle.base.specs.Entries.{entry}
 use Rattle.base.specs.Notation.{Clip3}
 use Rattle.strength.specs.Strength.{limitOf}
-use Rattle.strength.proofs.limit_unchecked.Statement.{statement}
-use Rattle.strength.proofs.limit_unchecked.Tie as tie
+use Rattle.strength.proofs.limits_table.Statement.{statement}
+use Rattle.strength.proofs.limits_table.Tie as tie
 
 -- the limit at a place of the table
 limitAt : ℕ → ℕ
@@ -26,9 +25,10 @@ placed lvl sharpness h = rw (level, sharp)
 
 returns : tie.Need-returns
 unfolding limitAt limitOf Clip3
-returns c =
-    let below : c .args .sharpness * 64 + c .args .lvl < 512 = omega arith in
-    rw (entry limitAt) (placed (c .args .lvl) (c .args .sharpness) (c .pre .0))
+returns c = record {
+  long = refl;
+  limit = λ lvl sharpness h k. let below : sharpness * 64 + lvl < 512 = omega arith in rw (entry limitAt) (placed lvl sharpness h);
+}
 
-pub limit-unchecked-spec : {M : Type 1} → statement M
-limit-unchecked-spec = tie.close (tie.spec (search needs) (search needs) (search needs) returns)
+pub limits-table-spec : {M : Type 1} → statement M
+limits-table-spec = tie.close (tie.spec returns)
