@@ -1,6 +1,8 @@
 //! What libvpx computes: strength.tsv, the lines of lines.bin.xz and the frames of quick.tar.xz.
 
+mod calls;
 mod frame;
+pub mod planes;
 
 use crate::lines::Line;
 pub use frame::{Cell, Frame, OPEN, plane_size};
@@ -54,8 +56,13 @@ fn filtered(record: &[u8; 72]) -> Filtered {
     }
 }
 
-/// The frames by name, without those of filter level 0.
+/// The frames by name. Those of filter level 0 are left out: a decoder does not filter them.
 pub fn frames(folder: &Path) -> Vec<Frame> {
+    frames_and_unfiltered(folder).0
+}
+
+/// The same, and how many are left out.
+pub fn frames_and_unfiltered(folder: &Path) -> (Vec<Frame>, usize) {
     let caller = (std::process::id(), std::thread::current().id());
     let out = env::temp_dir().join(format!("springspade-{caller:?}"));
     fs::create_dir_all(&out).unwrap();
@@ -64,7 +71,8 @@ pub fn frames(folder: &Path) -> Vec<Frame> {
     assert!(tar.unwrap().success());
     let mut files: Vec<PathBuf> = fs::read_dir(&out).unwrap().map(|f| f.unwrap().path()).collect();
     files.sort();
-    let frames = files.iter().filter_map(|file| Frame::read(file)).collect();
+    let frames: Vec<Frame> = files.iter().filter_map(|file| Frame::read(file)).collect();
     fs::remove_dir_all(&out).unwrap();
-    frames
+    let unfiltered = files.len() - frames.len();
+    (frames, unfiltered)
 }

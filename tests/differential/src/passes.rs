@@ -3,6 +3,7 @@
 pub mod reached;
 mod samples;
 pub mod small;
+mod unchecked;
 mod windows;
 pub(crate) mod words;
 
@@ -79,10 +80,15 @@ impl Pass {
 
     /// What ours returns, and the lent samples after it. Those beside them are left.
     pub fn ours(&self) -> (Returned, Vec<u16>) {
+        let Pass { frame, at, cells, window, .. } = self;
+        self.guarded(|samples| pass_returned(samples, window, cells, frame, at))
+    }
+
+    /// Runs on a copy of what is lent, and gives its samples after it. Those beside them must be left.
+    fn guarded<T>(&self, run: impl FnOnce(&mut [u16]) -> T) -> (T, Vec<u16>) {
         let mut memory = [&GUARD[..], &self.samples, &GUARD].concat();
         let lent = GUARD.len()..GUARD.len() + self.samples.len();
-        let samples = &mut memory[lent.clone()];
-        let returned = pass_returned(samples, &self.window, &self.cells, &self.frame, &self.at);
+        let returned = run(&mut memory[lent.clone()]);
         assert_eq!(memory[..lent.start], GUARD, "before the samples, {}", self.call());
         assert_eq!(memory[lent.end..], GUARD, "behind the samples, {}", self.call());
         (returned, memory[lent].to_vec())

@@ -115,6 +115,26 @@ unsafe extern "C" {
         stride: usize,
         y_origin: usize,
     ) -> Returned;
+    pub fn springspade_pass_unchecked(
+        samples: *mut u16,
+        samples_len: usize,
+        cells: *const u32,
+        cells_len: usize,
+        sharpness: u8,
+        depth: u8,
+        sub_x: u8,
+        sub_y: u8,
+        mi_cols: usize,
+        mi_rows: usize,
+        row: usize,
+        col: usize,
+        plane: u8,
+        pass: u8,
+        width: usize,
+        height: usize,
+        stride: usize,
+        y_origin: usize,
+    );
     pub fn springspade_sheet(
         sheet: *const u8,
         sheet_len: usize,

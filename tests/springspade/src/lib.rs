@@ -14,7 +14,7 @@ pub use cell::{Cell, cell};
 pub use edge::{EdgeFacts, Position, edge, edge_returned};
 pub use levels::{Lists, LoopFilter, Segmentation, level_table, level_table_into};
 pub use line::line;
-pub use pass::{Superblock, Window, pass, pass_returned};
+pub use pass::{Superblock, Window, pass, pass_returned, pass_unchecked};
 pub use row::{Frame, ModeInfo, row, row_returned};
 pub use sheet::{SHEET_ROOM, sheet, sheet_into};
 pub use strength::{Strength, mode_type, strength, strength_returned};

@@ -70,3 +70,43 @@ pub fn pass_returned(
         )
     }
 }
+
+/// The same without its tests, for a caller who has made them, perhaps once for many passes.
+///
+/// # Safety
+///
+/// `pass` must accept these very arguments, with the samples as they are at the call: it refuses what
+/// does not meet the conditions of the work. Where one is not met, the work may read and write outside of
+/// the slices.
+#[inline]
+pub unsafe fn pass_unchecked(
+    samples: &mut [u16],
+    window: &Window,
+    cells: &[u32],
+    frame: &Frame,
+    at: &Superblock,
+) {
+    // SAFETY: each pointer goes with the length of its own slice; the caller answers for the rest.
+    unsafe {
+        c::springspade_pass_unchecked(
+            samples.as_mut_ptr(),
+            samples.len(),
+            cells.as_ptr(),
+            cells.len(),
+            frame.sharpness,
+            frame.depth,
+            frame.sub_x,
+            frame.sub_y,
+            frame.mi_cols,
+            frame.mi_rows,
+            at.row,
+            at.col,
+            at.plane,
+            at.pass,
+            window.width,
+            window.height,
+            window.stride,
+            window.y_origin,
+        );
+    }
+}

@@ -3,11 +3,11 @@
 use crate::cases::{Case, LEVEL_40, SEG_LVL_ALT_L};
 use crate::passes::subsampling;
 use crate::rows::{Block, Row};
-use springspade::Position;
 use std::{array, fs, path::Path};
 
 pub struct Frame {
     pub name: String,
+    pub profile: u8,
     pub case: Case,
     pub levels: [u8; 64],
     pub frame: springspade::Frame,
@@ -17,7 +17,7 @@ pub struct Frame {
     pub before: [Vec<u16>; 3],
     pub after: [Vec<u16>; 3],
     /// By plane and pass.
-    calls: [[Vec<u8>; 2]; 3],
+    pub(super) calls: [[Vec<u8>; 2]; 3],
 }
 
 /// A cell's mode info, and the level and chroma transform that libvpx has for it.
@@ -41,6 +41,7 @@ impl Frame {
         if field(8) == 0 {
             return None;
         }
+        let profile = field(0).try_into().unwrap();
         let mut case = Case {
             level: field(8).try_into().unwrap(),
             delta_enabled: flag(10),
@@ -83,7 +84,7 @@ impl Frame {
             [(); 2].map(|()| rest.split_off(..samples / 4).unwrap().to_vec())
         });
         assert!(rest.is_empty(), "{name}");
-        Some(Frame { name, case, levels, frame, cells, before, after, calls })
+        Some(Frame { name, profile, case, levels, frame, cells, before, after, calls })
     }
 
     /// The rows from `base` on.
@@ -94,44 +95,6 @@ impl Frame {
         let cells = &self.cells[base * self.frame.mi_cols..][..row.cells()];
         row.blocks.extend(cells.iter().map(|cell| cell.block));
         row
-    }
-
-    /// Each x and y of a plane at which an edge may be, and what libvpx asked of the line filter there:
-    /// size * 64 + level, or 0 for nothing.
-    pub fn calls(&self, plane: u8, pass: u8) -> impl Iterator<Item = (usize, usize, u8)> {
-        let (width, _) = plane_size(&self.frame, plane);
-        let (right, down) = if pass == 0 { (4, 1) } else { (1, 4) };
-        let columns = width / right;
-        let calls = self.calls[plane as usize][pass as usize].iter().enumerate();
-        calls.map(move |(k, &call)| (k % columns * right, k / columns * down, call))
-    }
-
-    /// The position of a plane's x and y, and the cell that it reads.
-    pub fn position(&self, plane: u8, pass: u8, x: usize, y: usize) -> (Position, &Cell) {
-        let springspade::Frame { mi_cols, mi_rows, .. } = self.frame;
-        let (sub_x, sub_y) = subsampling(&self.frame, plane);
-        // Samples of the plane in a superblock.
-        let (wide, high) = (64 >> sub_x, 64 >> sub_y);
-        let (edge, i) = if pass == 0 { (x % wide / 4, y % high) } else { (y % high / 4, x % wide) };
-        // Two subsampled blocks have one cell.
-        let (loop_col, loop_row) = ((x / 8) << sub_x, (y / 8) << sub_y);
-        let cell = &self.cells[loop_row * mi_cols + loop_col];
-        let position = Position {
-            pass,
-            row: y / high * 8,
-            col: x / wide * 8,
-            edge,
-            i,
-            sub_x,
-            sub_y,
-            mi_cols,
-            mi_rows,
-            mi_size: cell.block.mi_size,
-            tx_sz: if plane == 0 { cell.block.tx_size } else { cell.uvtx },
-            skip: cell.block.skip,
-            ref_frame: cell.block.ref_frame,
-        };
-        (position, cell)
     }
 }
 

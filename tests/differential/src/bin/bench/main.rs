@@ -1,9 +1,14 @@
-//! Time of ours and of the Rust: `cargo run --release -p differential --bin bench`.
+//! Time of ours and of the Rust: `cargo run --release -p differential --bin bench`. Alone it prints the whole
+//! table, with `passes` its rows of passes, with `growth` the time by filtered positions as CSV.
 
+#[cfg(oracle)]
+mod blocks;
 #[cfg(oracle)]
 mod cells;
 #[cfg(oracle)]
 mod edges;
+#[cfg(oracle)]
+mod growth;
 #[cfg(oracle)]
 mod levels;
 #[cfg(oracle)]
@@ -11,7 +16,13 @@ mod lines;
 #[cfg(oracle)]
 mod passes;
 #[cfg(oracle)]
+mod planes;
+#[cfg(oracle)]
+mod range;
+#[cfg(oracle)]
 mod row;
+#[cfg(oracle)]
+mod superblocks;
 
 #[cfg(not(oracle))]
 fn main() {
@@ -19,11 +30,38 @@ fn main() {
 }
 
 #[cfg(oracle)]
-fn main() {
+fn main() -> std::process::ExitCode {
+    let mode = std::env::args().nth(1);
+    match mode.as_deref() {
+        None => table(),
+        Some("passes") => passes(),
+        Some("growth") => growth::csv(),
+        Some(_) => {
+            eprintln!("usage: bench [passes | growth]");
+            return std::process::ExitCode::from(2);
+        }
+    }
+    std::process::ExitCode::SUCCESS
+}
+
+#[cfg(oracle)]
+fn table() {
     row::head();
     levels::rows();
     lines::rows();
     cells::rows();
     edges::rows();
+    pass_rows();
+}
+
+#[cfg(oracle)]
+fn passes() {
+    row::head();
+    pass_rows();
+}
+
+#[cfg(oracle)]
+fn pass_rows() {
     passes::rows();
+    range::rows();
 }

@@ -1,0 +1,93 @@
+//! A whole frame through row and pass, ours and the Rust's, from its own settings and mode info on.
+
+use super::{Frame, plane_size};
+use crate::passes::subsampling;
+use crate::rows::Row;
+use springspade::{Superblock, Window, level_table, pass};
+
+pub type Planes = [Vec<u16>; 3];
+
+/// The words of a superblock row, by our level table and row.
+pub fn words(frame: &Frame, base: usize) -> Vec<u32> {
+    let case = &frame.case;
+    let levels = level_table(&case.loop_filter(), &case.segmentation()).unwrap();
+    let part = Row { levels, ..frame.row(base) };
+    let mut words = vec![0; part.cells()];
+    part.ours(&mut words).accepted().unwrap();
+    words
+}
+
+/// The planes that ours gives.
+pub fn ours(frame: &Frame) -> Planes {
+    let mut planes = frame.before.clone();
+    for base in bases(frame) {
+        let words = words(frame, base);
+        for at in passes(frame, base) {
+            let (samples, window) = lent(frame, &mut planes, &at);
+            let filtered = pass(samples, &window, &words, &frame.frame, &at);
+            assert_eq!(filtered, Ok(()), "{}, {at:?}", frame.name);
+        }
+    }
+    planes
+}
+
+/// The planes that the Rust gives, by its own level table, cells and pass.
+#[cfg(oracle)]
+pub fn by_the_rust(frame: &Frame) -> Planes {
+    use crate::rust;
+    use oracle::superblock_loop_filter::hook_row;
+
+    let levels = rust::level_table(&frame.case);
+    let mut planes = frame.before.clone();
+    for base in bases(frame) {
+        let part = Row { levels, ..frame.row(base) };
+        let cells = rust::with_frame(&part, |frame| hook_row(frame, base as u32));
+        for at in passes(frame, base) {
+            let (samples, Window { width, height, stride, y_origin }) =
+                lent(frame, &mut planes, &at);
+            let (row, col) = (at.row as u32, at.col as u32);
+            cells.pass(samples, stride, width, height, y_origin, at.plane, at.pass, row, col);
+        }
+    }
+    planes
+}
+
+/// The first rows of the superblock rows.
+pub fn bases(frame: &Frame) -> impl Iterator<Item = usize> {
+    (0..frame.frame.mi_rows).step_by(8)
+}
+
+/// The passes of a superblock row: superblock by superblock, plane by plane, the vertical edges first.
+pub fn passes(frame: &Frame, base: usize) -> impl Iterator<Item = Superblock> {
+    let superblocks = (0..frame.frame.mi_cols).step_by(8);
+    superblocks.flat_map(move |col| {
+        [(0, 0), (0, 1), (1, 0), (1, 1), (2, 0), (2, 1)].map(|(plane, pass)| Superblock {
+            row: base,
+            col,
+            plane,
+            pass,
+        })
+    })
+}
+
+/// The plane's rows that a pass is lent: its superblock row and the eight rows above.
+fn lent<'a>(frame: &Frame, planes: &'a mut Planes, at: &Superblock) -> (&'a mut [u16], Window) {
+    let (width, rows) = plane_size(&frame.frame, at.plane);
+    let (_, sub_y) = subsampling(&frame.frame, at.plane);
+    let top = (8 * at.row) >> sub_y;
+    let (y_origin, end) = (top.saturating_sub(8), rows.min(top + (64 >> sub_y)));
+    let window = Window { width, height: end - y_origin, stride: width, y_origin };
+    (&mut planes[at.plane as usize][y_origin * width..end * width], window)
+}
+
+/// The first sample in which two lists of planes differ, for messages.
+pub fn difference(frame: &Frame, a: &Planes, b: &Planes) -> Option<String> {
+    (0..3).find_map(|plane| {
+        let (a, b) = (&a[plane], &b[plane]);
+        assert_eq!(a.len(), b.len(), "{}, plane {plane}", frame.name);
+        let k = (0..a.len()).find(|&k| a[k] != b[k])?;
+        let (width, _) = plane_size(&frame.frame, plane as u8);
+        let (x, y) = (k % width, k / width);
+        Some(format!("{}, plane {plane}, sample {x}, {y}: {} and {}", frame.name, a[k], b[k]))
+    })
+}
