@@ -4,6 +4,7 @@ pub mod edge_entry;
 pub mod level_entry;
 pub mod line_entry;
 pub mod pass_entry;
+pub mod pass_unchecked_entry;
 pub mod row_entry;
 pub mod sheet_entry;
 pub mod strength_entry;

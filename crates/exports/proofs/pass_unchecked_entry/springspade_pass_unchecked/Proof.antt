@@ -2,8 +2,8 @@ use borrow.Author.Needs.{needs}
 use mathlib.Core.Path.{sym, ap, _∙_}
 use Rattle.base.specs.Outcome.{accepted}
 use Rattle.pass.specs.PassRange.{accepted-ready}
-use Rattle.exports.proofs.pass_entry.springspade_pass_unchecked.Statement.{statement}
-use Rattle.exports.proofs.pass_entry.springspade_pass_unchecked.Tie as tie
+use Rattle.exports.proofs.pass_unchecked_entry.springspade_pass_unchecked.Statement.{statement}
+use Rattle.exports.proofs.pass_unchecked_entry.springspade_pass_unchecked.Tie as tie
 
 superblock-loop-filter-unchecked-requires : tie.Need-superblock-loop-filter-unchecked-requires
 superblock-loop-filter-unchecked-requires c κs =

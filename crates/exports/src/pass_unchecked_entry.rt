@@ -1,0 +1,52 @@
+// One pass over one superblock of a plane, by a caller that has made its tests.
+ghost use mathlib.Core.Path.{_≡_};
+ghost use Rattle.base.specs.Outcome.{accepted};
+ghost use Rattle.decided.specs.Decided.{settingOf};
+ghost use Rattle.pass.specs.Pass.{superblockLoopFilter, superblockLoopFilterCells};
+ghost use Rattle.positions.specs.Positions.{passOf};
+use decided::superblock_of;
+use pass::superblock_loop_filter_unchecked;
+use positions::pass_of;
+use window::WindowShape;
+
+// The pass without its tests, for a caller whose pass springspade_pass would accept.
+#[no_mangle]
+pub extern "C" fn springspade_pass_unchecked(
+    samples: &mut [u16],
+    cells: &[u32],
+    sharpness: u8,
+    depth: u8,
+    sub_x: u8,
+    sub_y: u8,
+    mi_cols: usize,
+    mi_rows: usize,
+    row: usize,
+    col: usize,
+    plane: u8,
+    pass: u8,
+    width: usize,
+    height: usize,
+    stride: usize,
+    y_origin: usize,
+)
+    requires { ⌜ superblockLoopFilterCells (record { width = width; height = height; stride = stride; top = «y_origin» }) sharpness depth «sub_x» «sub_y» «mi_cols» «mi_rows» row col plane pass (now cells) (now samples) ≡ accepted (superblockLoopFilter (record { width = width; height = height; stride = stride; top = «y_origin» }) (settingOf sharpness depth «sub_x» «sub_y» «mi_cols» «mi_rows» row col plane (now cells)) (passOf pass) (now samples)) ⌝ }
+    ensures { λ r. ⌜ accepted (now (samples .exit)) ≡ superblockLoopFilterCells (record { width = width; height = height; stride = stride; top = «y_origin» }) sharpness depth «sub_x» «sub_y» «mi_cols» «mi_rows» row col plane pass (now (cells .entry)) (now (samples .entry)) ⌝ }
+{
+    let g = WindowShape {
+        width,
+        height,
+        stride,
+        top: y_origin,
+    };
+    let s = superblock_of(sub_x, sub_y, mi_cols, mi_rows, row, col, plane);
+    superblock_loop_filter_unchecked(
+        samples,
+        g,
+        cells,
+        s,
+        pass_of(pass),
+        0 < plane,
+        sharpness,
+        depth,
+    );
+}
