@@ -13,10 +13,10 @@ ghost use Rattle.edges.specs.ScreenLaws.{Seen};
 use crate::filter_size::filter_size;
 use crate::superblock_filter::apply_filter;
 use crate::superblock_filter::is_32_edge;
+use crate::superblock_filter::is_cell_multiple;
 use crate::superblock_filter::is_tx_edge;
 use crate::superblock_filter::loop_cell;
 use crate::superblock_filter::on_screen;
-use crate::superblock_filter::two_to;
 use cells::LfCell;
 use geometry::Luma;
 use geometry::Pass;
@@ -48,14 +48,8 @@ fn is_cell_edge(s: Superblock, pass: Pass, x: Luma, y: Luma, c: LfCell) -> bool
     ensures { λ r. ⌜ r ≡ isBlockEdge pass (x .0) (y .0) (2 ^ widthLog2 c (sub s pass)) (2 ^ heightLog2 c (sub s pass)) ⌝ }
 {
     match pass {
-        Pass::Vertical => {
-            let wide = two_to(pick(s.subx, c.width0, c.width1));
-            x.0 % (8 * wide) == 0
-        }
-        Pass::Horizontal => {
-            let high = two_to(pick(s.suby, c.height0, c.height1));
-            y.0 % (8 * high) == 0
-        }
+        Pass::Vertical => is_cell_multiple(x.0, pick(s.subx, c.width0, c.width1)),
+        Pass::Horizontal => is_cell_multiple(y.0, pick(s.suby, c.height0, c.height1)),
     }
 }
 

@@ -2,7 +2,7 @@
 ghost use mathlib.Core.Path.{_≡_};
 ghost use Prim.Native.Nat.{_*_, _^_, _≤_, _<_};
 ghost use Rattle.blocks.specs.ModeInfoLaws.{Block};
-ghost use Rattle.edges.specs.SuperblockFilter.{loopCell, lastColumn, isTxEdge, is32Edge, atBorder, onScreen, applyFilter};
+ghost use Rattle.edges.specs.SuperblockFilter.{multiple, loopCell, lastColumn, isTxEdge, is32Edge, atBorder, onScreen, applyFilter};
 ghost use Rattle.positions.specs.Positions.{Placed};
 ghost use Rattle.edges.specs.Edge.{blockEdge, edgeFacts, superblockFilterEdge, outcomeOf};
 use crate::filter_size::filter_size;
@@ -80,16 +80,29 @@ fn is_block_edge(s: Superblock, pass: Pass, x: Luma, y: Luma, mi_size: u8) -> bo
     }
 }
 
-// 2 to the power of a transform, or of a logarithm.
-pub(crate) fn two_to(n: u8) -> usize
-    requires { ⌜ n ≤ 3 ⌝ }
-    ensures { λ r. ⌜ (r ≡ 2 ^ n) × (0 < r) × (r ≤ 8) ⌝ }
+// Multiples of 2 to the power of a transform, and of 8 times that of a logarithm: by cases, so that nothing is divided.
+
+fn is_multiple(n: usize, log: u8) -> bool
+    requires { ⌜ log ≤ 3 ⌝ }
+    ensures { λ r. ⌜ r ≡ multiple n (2 ^ log) ⌝ }
 {
-    match n {
-        0 => 1,
-        1 => 2,
-        2 => 4,
-        _ => 8,
+    match log {
+        0 => n % 1 == 0,
+        1 => n % 2 == 0,
+        2 => n % 4 == 0,
+        _ => n % 8 == 0,
+    }
+}
+
+pub(crate) fn is_cell_multiple(n: usize, log: u8) -> bool
+    requires { ⌜ log ≤ 3 ⌝ }
+    ensures { λ r. ⌜ r ≡ multiple n (8 * 2 ^ log) ⌝ }
+{
+    match log {
+        0 => n % 8 == 0,
+        1 => n % 16 == 0,
+        2 => n % 32 == 0,
+        _ => n % 64 == 0,
     }
 }
 
@@ -109,8 +122,7 @@ pub(crate) fn is_tx_edge(s: Superblock, pass: Pass, edge: usize, x: Luma, tx_sz:
     requires { ⌜ Placed s × (x .0 < 65792) × («tx_sz» ≤ 3) ⌝ }
     ensures { λ r. ⌜ r ≡ isTxEdge s pass edge (x .0) «tx_sz» ⌝ }
 {
-    let apart = two_to(tx_sz);
-    !last_column(s, pass, edge, x) & (edge % apart == 0)
+    !last_column(s, pass, edge, x) & is_multiple(edge, tx_sz)
 }
 
 pub(crate) fn is_32_edge(edge: usize) -> bool
