@@ -38,6 +38,6 @@ pub record LanesTo (m : ℕ) (f : List ℕ → List ℕ) (t u : List ℕ) : Type
   pub done : (l : ℕ) → l < m → laneOf u l ≡ f (laneOf t l)
   pub rest : (l : ℕ) → m ≤ l → l < 16 → laneOf u l ≡ laneOf t l
 
--- the filter mask is off in the first m lanes
-pub record NoneTo (m depth limit blimit : ℕ) (t : List ℕ) : Type 0 where
-  pub none : (l : ℕ) → l < m → filterMask (scaled depth limit) (scaled depth blimit) (laneOf t l) ≡ false
+-- the filter mask is off in those of the first m lanes that are below n
+pub record NoneTo (m n depth limit blimit : ℕ) (t : List ℕ) : Type 0 where
+  pub none : (l : ℕ) → l < m → l < n → filterMask (scaled depth limit) (scaled depth blimit) (laneOf t l) ≡ false

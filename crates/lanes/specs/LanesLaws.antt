@@ -2,12 +2,14 @@
 -- Assumes nothing.
 use mathlib.Core.Path.{_≡_, refl, sym, ap, _∙_}
 use mathlib.Core.Logic.{_≢_, ⊎-elim}
-use mathlib.Core.Bool.{false}
+use mathlib.Core.Bool.{Bool, true, false, _&&_}
 use mathlib.Core.List.{List, [], _∷_}
 use Prim.Native.Nat.{ℕ, zero, suc, _+_, _*_, _<_, _≤_}
 use native.Mathlib.Omega.{arith}
+use lib.Dec.{ltb}
 use lib.ListN.{length, set, length-set}
 use lib.Seq.{getD-set-same, getD-set-other, ext-getD}
+use borrow.Author.Tests.{lt-ltb}
 use Rattle.base.specs.Depth.{scaled}
 use Rattle.base.specs.NotationLaws.{split}
 use Rattle.lane_filters.specs.LaneSamples.{samplesOf, putTaps, Small}
@@ -127,6 +129,9 @@ lane-more {f} {m} {t} {u} {v} {a} k vs h g n inv is e d =
       rw d (lane-step f t u m k vs n h g (ap (λ (x : List ℕ). putTaps x k vs) (sym q) ∙ e ∙ ap f q) inv),
     )
 
+pub lanes-fewer : {n m : ℕ} {f : List ℕ → List ℕ} {t u : List ℕ} → n ≤ m → Lanes m f t u → Lanes n f t u
+lanes-fewer h all = record { each = λ l b. all .each l (omega arith) }
+
 pub lanes-all : {n m : ℕ} {f : List ℕ → List ℕ} {t u : List ℕ} → n ≤ m → LanesTo m f t u → Lanes n f t u
 lanes-all h inv = record { each = λ l b. inv .done l (omega arith) }
 
@@ -152,19 +157,25 @@ small-in {m} {f} {t} {u} h s inv =
 
 -- ---- lanes whose mask is off
 
-module _ (depth limit blimit : ℕ) where
-  pub none-none : (t : List ℕ) → NoneTo 0 depth limit blimit t
-  none-none t = record { none = λ l b. absurd (omega arith) }
+module _ (n depth limit blimit : ℕ) where
+  pub none-none : (t : List ℕ) → NoneTo 0 n depth limit blimit t
+  none-none t = record { none = λ l b g. absurd (omega arith) }
 
-  pub none-more : {a : Lane} (m : ℕ) (t : List ℕ) → a ≡ laneAt t m → filterMask (scaled depth limit) (scaled depth blimit) (samplesOf a) ≡ false → NoneTo m depth limit blimit t → NoneTo (m + 1) depth limit blimit t
+  pub none-more : {a : Lane} (m : ℕ) (t : List ℕ) → a ≡ laneAt t m → filterMask (scaled depth limit) (scaled depth blimit) (samplesOf a) && ltb m n ≡ false → NoneTo m n depth limit blimit t → NoneTo (m + 1) n depth limit blimit t
   none-more {a} m t is e g = record {
-    none = λ l b. ⊎-elim (λ (x : l < m). g .none l x) (λ (x : m ≤ l). let y : l ≡ m = omega arith in rw y last) (split l m);
+    none = λ l b d. ⊎-elim (λ (x : l < m). g .none l x d) (λ (x : m ≤ l). let y : l ≡ m = omega arith in rw y (last (omega arith))) (split l m);
   }
     where
-      last : filterMask (scaled depth limit) (scaled depth blimit) (laneOf t m) ≡ false
-      last = ap (filterMask (scaled depth limit) (scaled depth blimit)) (sym (samples-lane t m) ∙ ap samplesOf (sym is)) ∙ e
+      off : (b : Bool) → b && true ≡ false → b ≡ false
+      off true e = e
+      off false e = refl
+
+      last : m < n → filterMask (scaled depth limit) (scaled depth blimit) (laneOf t m) ≡ false
+      last h =
+          ap (filterMask (scaled depth limit) (scaled depth blimit)) (sym (samples-lane t m) ∙ ap samplesOf (sym is))
+          ∙ off (filterMask (scaled depth limit) (scaled depth blimit) (samplesOf a)) (rw (lt-ltb m n h) at e)
 
   -- where the mask is off every lane is kept
-  pub none-kept : (n size thresh : ℕ) (t : List ℕ) → NoneTo n depth limit blimit t → Lanes n (sampleFiltering depth size limit blimit thresh) t t
-  none-kept n size thresh t g =
-      record { each = λ l b. filters-none depth size limit blimit thresh (laneOf t l) (g .none l b) }
+  pub none-kept : (m size thresh : ℕ) (t : List ℕ) → n ≤ m → NoneTo m n depth limit blimit t → Lanes n (sampleFiltering depth size limit blimit thresh) t t
+  none-kept m size thresh t h g =
+      record { each = λ l b. filters-none depth size limit blimit thresh (laneOf t l) (g .none l (omega arith) b) }

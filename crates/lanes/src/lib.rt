@@ -83,16 +83,24 @@ fn put_fourteen(t: &mut [u16; 256], l: usize, r: Lane)
     t[224 + l] = r.q6;
 }
 
-// Whether the filter mask is on in one of the first n lanes. Idle lanes would pass it, and are not asked.
-fn any_mask(t: &[u16; 256], n: usize, depth: u8, limit: u8, blimit: u8) -> bool
-    requires { ⌜ (supported depth ≡ true) × Table (now t) × (n ≤ 16) ⌝ }
-    ensures { λ r. ⌜ (r ≡ false → NoneTo n depth limit blimit (now (t .entry))) ⌝ }
+// n rounded up to whole vectors of 8 lanes, so that no loop ends in single lanes.
+fn whole(n: usize) -> usize
+    requires { ⌜ n ≤ 16 ⌝ }
+    ensures { λ r. ⌜ (n ≤ r) × (r ≤ 16) ⌝ }
+{
+    if n <= 8 { 8 } else { 16 }
+}
+
+// Whether the filter mask is on in one of the first m lanes that is below n. Idle lanes would pass it.
+fn any_mask(t: &[u16; 256], m: usize, n: usize, depth: u8, limit: u8, blimit: u8) -> bool
+    requires { ⌜ (supported depth ≡ true) × Table (now t) × (m ≤ 16) ⌝ }
+    ensures { λ r. ⌜ (r ≡ false → NoneTo m n depth limit blimit (now (t .entry))) ⌝ }
 {
     let mut on = false;
     let mut l: usize = 0;
-    while l < n {
+    while l < m {
         let a = lane_at(t, l);
-        on = on | lane_mask(a, depth, limit, blimit);
+        on = on | (lane_mask(a, depth, limit, blimit) & (l < n));
         l += 1;
     }
     on
@@ -153,17 +161,18 @@ pub fn filter_lanes_unchecked(
     let limit = strength.limit;
     let blimit = strength.blimit;
     let thresh = strength.thresh;
-    if !any_mask(t, n, depth, limit, blimit) {
+    let m = whole(n);
+    if !any_mask(t, m, n, depth, limit, blimit) {
         return false;
     }
     if size == 0 {
-        lanes_four(t, n, depth, limit, blimit, thresh);
+        lanes_four(t, m, depth, limit, blimit, thresh);
         return true;
     }
     if size == 1 {
-        lanes_six(t, n, depth, limit, blimit, thresh);
+        lanes_six(t, m, depth, limit, blimit, thresh);
         return true;
     }
-    lanes_fourteen(t, n, depth, limit, blimit, thresh);
+    lanes_fourteen(t, m, depth, limit, blimit, thresh);
     true
 }

@@ -1,5 +1,5 @@
 use borrow.Author.Needs.{needs}
-use mathlib.Core.Path.{_≡_, sym, _∙_}
+use mathlib.Core.Path.{_≡_}
 use mathlib.Core.Bool.{false}
 use Prim.Native.Nat.{_-_, _≤_}
 use native.Mathlib.Omega.{arith}
@@ -11,14 +11,14 @@ use Rattle.lanes.proofs.any_mask.Statement.{statement}
 use Rattle.lanes.proofs.any_mask.Tie as tie
 
 abbrev Inv-loop : tie.InvT-loop
-Inv-loop t n depth limit blimit on₀ l₀ on l = (l ≤ n) × (on ≡ false → NoneTo l depth limit blimit t)
+Inv-loop t m n depth limit blimit on₀ l₀ on l = (l ≤ m) × (on ≡ false → NoneTo l n depth limit blimit t)
 
 abbrev μ-loop : tie.MeasureT-loop
-μ-loop t n depth limit blimit on₀ l₀ on l = n - l
+μ-loop t m n depth limit blimit on₀ l₀ on l = m - l
 
 loop-holds : tie.Need-loop-holds Inv-loop μ-loop
 loop-holds c =
-    (omega arith, λ e. none-none (c .args .depth) (c .args .limit) (c .args .blimit) (now (c .args .t)))
+    (omega arith, λ e. none-none (c .args .n) (c .args .depth) (c .args .limit) (c .args .blimit) (now (c .args .t)))
 
 lane-at-requires : tie.Need-lane-at-requires Inv-loop μ-loop
 lane-at-requires c κs = omega (arith, c .loop-test .taken, c .before .before .pre .2)
@@ -38,11 +38,11 @@ loop-again c =
       omega arith,
       λ e.
           let (before, off) = neither (loop .loop .on) e in
-          none-more (a .depth) (a .limit) (a .blimit) (loop .loop .l) (now (a .t)) (c .before .lane-at .ensures) (sym (c .lane-mask .ensures) ∙ off) (loop .loop .inv .1 before),
+          none-more (a .n) (a .depth) (a .limit) (a .blimit) (loop .loop .l) (now (a .t)) (c .before .lane-at .ensures) (rw (c .lane-mask .ensures) at off) (loop .loop .inv .1 before),
     )
 
 returns : tie.Need-returns Inv-loop μ-loop
-returns c = λ e. let n : c .before .loop .l ≡ c .before .before .args .n = omega arith in rw n at (c .before .loop .inv .1 e)
+returns c = λ e. let all : c .before .loop .l ≡ c .before .before .args .m = omega arith in rw all at (c .before .loop .inv .1 e)
 
 pub any-mask-spec : {M : Type 1} → statement M
 any-mask-spec =
