@@ -92,7 +92,7 @@ fn whole(n: usize) -> usize
 }
 
 // Whether the filter mask is on in one of the first m lanes that is below n. Idle lanes would pass it.
-fn any_mask(t: &[u16; 256], m: usize, n: usize, depth: u8, limit: u8, blimit: u8) -> bool
+fn any_mask(t: &[u16; 256], m: usize, n: u16, depth: u8, limit: u8, blimit: u8) -> bool
     requires { ⌜ (supported depth ≡ true) × Table (now t) × (m ≤ 16) ⌝ }
     ensures { λ r. ⌜ (r ≡ false → NoneTo m n depth limit blimit (now (t .entry))) ⌝ }
 {
@@ -100,7 +100,7 @@ fn any_mask(t: &[u16; 256], m: usize, n: usize, depth: u8, limit: u8, blimit: u8
     let mut l: usize = 0;
     while l < m {
         let a = lane_at(t, l);
-        on = on | (lane_mask(a, depth, limit, blimit) & (l < n));
+        on = on | (lane_mask(a, depth, limit, blimit) & ((l as u16) < n));
         l += 1;
     }
     on
@@ -162,7 +162,7 @@ pub fn filter_lanes_unchecked(
     let blimit = strength.blimit;
     let thresh = strength.thresh;
     let m = whole(n);
-    if !any_mask(t, m, n, depth, limit, blimit) {
+    if !any_mask(t, m, n as u16, depth, limit, blimit) {
         return false;
     }
     if size == 0 {

@@ -47,4 +47,4 @@ returns c = λ e. let all : c .before .loop .l ≡ c .before .before .args .m = 
 pub any-mask-spec : {M : Type 1} → statement M
 any-mask-spec =
     tie.close
-    (tie.spec Inv-loop μ-loop loop-holds lane-at-requires lane-mask-requires (search needs) (search needs) loop-again returns)
+    (tie.spec Inv-loop μ-loop loop-holds lane-at-requires lane-mask-requires (search needs) (search needs) (search needs) loop-again returns)

@@ -41,6 +41,7 @@ filter-lanes-unchecked-spec =
     tie.close
     (tie.spec
     (λ c κs. search needs)
+    (λ c. search needs)
     (λ c κs. search needs)
     returns
     (λ c κs. search needs)
