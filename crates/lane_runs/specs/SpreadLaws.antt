@@ -65,9 +65,9 @@ module _ (at step along N lo m : ℕ) (v : ℕ → ℕ → ℕ) (w : List ℕ) w
   spread-no-taps n = record { long = refl; done = λ l k a b d. absurd (omega arith); kept = λ j h. refl }
 
   -- a position more
-  pub spread-lane : (n : ℕ) (u : List ℕ) (writes sample : ℕ → ℕ) → Spaced at step along N → n < N → lo + m ≤ 16 → ((k : ℕ) → k < 16 → placeOf at step along n k < length w)
-      → ((k : ℕ) → k < m → writes k ≡ placeOf at step along n (lo + k)) → ((k : ℕ) → k < m → sample k ≡ v n (lo + k)) → Spread at step along n lo m v w u → Spread at step along (n + 1) lo m v w (scatter (λ k. true) writes sample m u)
-  spread-lane n u writes sample s few taps lent is-write is-sample inv = record {
+  pub spread-lane : (n : ℕ) (u r : List ℕ) (writes sample : ℕ → ℕ) → Spaced at step along N → n < N → lo + m ≤ 16 → ((k : ℕ) → k < 16 → placeOf at step along n k < length w)
+      → ((k : ℕ) → k < m → writes k ≡ placeOf at step along n (lo + k)) → ((k : ℕ) → k < m → sample k ≡ v n (lo + k)) → Spread at step along n lo m v w u → r ≡ scatter (λ k. true) writes sample m u → Spread at step along (n + 1) lo m v w r
+  spread-lane n u r writes sample s few taps lent is-write is-sample inv made = rw made record {
     long = scatter-length (λ k. true) writes sample m u ∙ inv .long;
     done = λ l k a b d.
         ⊎-elim
@@ -96,9 +96,9 @@ module _ (at step along N lo m : ℕ) (v : ℕ → ℕ → ℕ) (w : List ℕ) w
           ∙ ap (v n) y
 
   -- a tap more
-  pub spread-tap : (n : ℕ) (u : List ℕ) (writes sample : ℕ → ℕ) → Spaced at step along N → n ≤ N → lo + m < 16 → ((l : ℕ) → l < n → placeOf at step along l (lo + m) < length w)
-      → ((l : ℕ) → l < n → writes l ≡ placeOf at step along l (lo + m)) → ((l : ℕ) → l < n → sample l ≡ v l (lo + m)) → Spread at step along n lo m v w u → Spread at step along n lo (m + 1) v w (scatter (λ l. true) writes sample n u)
-  spread-tap n u writes sample s few taps lent is-write is-sample inv = record {
+  pub spread-tap : (n : ℕ) (u r : List ℕ) (writes sample : ℕ → ℕ) → Spaced at step along N → n ≤ N → lo + m < 16 → ((l : ℕ) → l < n → placeOf at step along l (lo + m) < length w)
+      → ((l : ℕ) → l < n → writes l ≡ placeOf at step along l (lo + m)) → ((l : ℕ) → l < n → sample l ≡ v l (lo + m)) → Spread at step along n lo m v w u → r ≡ scatter (λ l. true) writes sample n u → Spread at step along n lo (m + 1) v w r
+  spread-tap n u r writes sample s few taps lent is-write is-sample inv made = rw made record {
     long = scatter-length (λ k. true) writes sample n u ∙ inv .long;
     done = λ l k a b d.
         ⊎-elim
@@ -144,7 +144,7 @@ module _ (at step along N lo m : ℕ) (w : List ℕ) where
   loaded-lane n t u reads r few taps is inv e =
       let le = r .few in
       rw e record {
-        spread = spread-lane 0 16 1 16 lo m _ (replicate 256 0) n t (λ k. 16 * (lo + k) + n) (λ k. getD w (reads k) 0) spaced-table (omega arith) taps (λ k b. room n k (omega arith) b) (λ k b. omega arith) (λ k b. ap (λ (i : ℕ). getD w i 0) (is k b)) (inv .spread);
+        spread = spread-lane 0 16 1 16 lo m _ (replicate 256 0) n t _ (λ k. 16 * (lo + k) + n) (λ k. getD w (reads k) 0) spaced-table (omega arith) taps (λ k b. room n k (omega arith) b) (λ k b. omega arith) (λ k b. ap (λ (i : ℕ). getD w i 0) (is k b)) (inv .spread) refl;
         small = scatter-below 4096 (λ k. 16 * (lo + k) + n) (λ k. getD w (reads k) 0) m t (λ k b. rw (is k b) (r .small n (lo + k) few (omega arith))) (inv .small);
       }
 
@@ -153,7 +153,7 @@ module _ (at step along N lo m : ℕ) (w : List ℕ) where
   loaded-tap n t u reads r taps is inv e =
       let le = r .few in
       rw e record {
-        spread = spread-tap 0 16 1 16 lo m _ (replicate 256 0) n t (λ l. 16 * (lo + m) + l) (λ l. getD w (reads l) 0) spaced-table (omega arith) taps (λ l b. room l (lo + m) (omega arith) taps) (λ l b. omega arith) (λ l b. ap (λ (i : ℕ). getD w i 0) (is l b)) (inv .spread);
+        spread = spread-tap 0 16 1 16 lo m _ (replicate 256 0) n t _ (λ l. 16 * (lo + m) + l) (λ l. getD w (reads l) 0) spaced-table (omega arith) taps (λ l b. room l (lo + m) (omega arith) taps) (λ l b. omega arith) (λ l b. ap (λ (i : ℕ). getD w i 0) (is l b)) (inv .spread) refl;
         small = scatter-below 4096 (λ l. 16 * (lo + m) + l) (λ l. getD w (reads l) 0) n t (λ l b. rw (is l b) (r .small l (lo + m) b taps)) (inv .small);
       }
 

@@ -31,7 +31,7 @@ fn load_sixteen(t: &mut [u16; 256], l: usize, samples: &[u16], at: usize)
     requires { ⌜ (l < 16) × (at + 15 < length (now samples)) ⌝ }
     ensures { λ r. ⌜ now (t .exit) ≡ scatter (λ k. true) (λ k. 16 * (0 + k) + l) (λ k. getD (now (samples .entry)) (at + (0 + k)) 0) 16 (now (t .entry)) ⌝ }
 {
-    t[l] = samples[at];
+    t[0 + l] = samples[at + 0];
     t[16 + l] = samples[at + 1];
     t[32 + l] = samples[at + 2];
     t[48 + l] = samples[at + 3];

@@ -23,14 +23,7 @@ fn load_row(t: &mut [u16; 256], k: usize, samples: &[u16], at: usize, n: usize)
 }
 
 // The m taps from lo on.
-fn gather_rows(
-    samples: &[u16],
-    at: usize,
-    step: usize,
-    n: usize,
-    lo: usize,
-    m: usize,
-) -> [u16; 256]
+fn gather_rows(samples: &[u16], at: usize, step: usize, n: usize, lo: usize, m: usize) -> [u16; 256]
     requires { ⌜ LaneRun at step 1 n (now samples) × (0 < n) × (lo + m ≤ 16) ⌝ }
     ensures { λ r. ⌜ Loaded at step 1 n lo m (now (samples .entry)) r ⌝ }
 {
