@@ -50,7 +50,7 @@ module _ (stored : ℕ → Bool) (writes sample : ℕ → ℕ) where
   scatter-length zero w = refl
   scatter-length (suc n) w = put-length (stored n) (writes n) (sample n) (scatter stored writes sample n w) ∙ scatter-length n w
 
-  scatter-other : (n : ℕ) (w : List ℕ) (j d : ℕ) → ((k : ℕ) → k < n → stored k ≡ true → j ≢ writes k) → getD (scatter stored writes sample n w) j d ≡ getD w j d
+  pub scatter-other : (n : ℕ) (w : List ℕ) (j d : ℕ) → ((k : ℕ) → k < n → stored k ≡ true → j ≢ writes k) → getD (scatter stored writes sample n w) j d ≡ getD w j d
   unfolding scatter
   scatter-other zero w j d h = refl
   scatter-other (suc n) w j d h =
@@ -89,7 +89,7 @@ scatter-same s s′ i i′ v (suc n) w h e =
 
 -- ---- n reads
 
-gather-kept : (reads : ℕ → ℕ) (k n : ℕ) (w u : List ℕ) → ((j : ℕ) → j < k + n → getD w (reads j) 0 ≡ getD u (reads j) 0) → gather reads k n w ≡ gather reads k n u
+pub gather-kept : (reads : ℕ → ℕ) (k n : ℕ) (w u : List ℕ) → ((j : ℕ) → j < k + n → getD w (reads j) 0 ≡ getD u (reads j) 0) → gather reads k n w ≡ gather reads k n u
 unfolding gather
 gather-kept reads k zero w u h = refl
 gather-kept reads k (suc n) w u h = λ x. h k (omega arith) x ∷ gather-kept reads (suc k) n w u (λ j l. h j (omega arith)) x

@@ -1,0 +1,4 @@
+pub mod LaneSamples
+pub mod DifferenceLaws
+pub mod RaisedFilter
+pub mod RaisedFilterLaws

@@ -1,0 +1,4 @@
+pub mod Spread
+pub mod SpreadLaws
+pub mod PlainRunLaws
+pub mod LaneRunLaws

@@ -1,0 +1,161 @@
+-- Laws of samples that are stored position by position, or tap by tap.
+-- Assumes nothing.
+use mathlib.Core.Path.{_≡_, refl, sym, ap, _∙_}
+use mathlib.Core.Logic.{_≢_, _⊎_, inl, inr, ⊎-elim}
+use mathlib.Core.Bool.{true}
+use mathlib.Core.List.{List}
+use Prim.Native.Nat.{ℕ, zero, suc, _+_, _-_, _*_, _/_, _≤_, _<_}
+use native.Mathlib.Nat.{add-comm}
+use native.Mathlib.Omega.{arith}
+use lib.Arith.{digits-div, digits-mod}
+use lib.ListN.{length, getD, set, replicate, length-replicate}
+use lib.Seq.{getD-set-same, getD-set-other}
+use Rattle.base.specs.Filled.{set-below}
+use Rattle.base.specs.NotationLaws.{split}
+use Rattle.lanes.specs.Lanes.{Table}
+use Rattle.window.specs.Stencil.{scatter}
+use Rattle.window.specs.StencilLaws.{scatter-length, scatter-other}
+use Rattle.lane_runs.specs.Spread.{placeOf, Spaced, Spread, LaneRun, Loaded}
+
+-- ---- places
+
+-- rows at least as far apart as they are wide
+digits-same : {S : ℕ} (q r p s : ℕ) → r < S → s < S → q * S + r ≡ p * S + s → (q ≡ p) × (r ≡ s)
+digits-same {S} q r p s h g e =
+    let same : q ≡ p = sym (digits-div q h) ∙ ap (λ (x : ℕ). x / S) e ∙ digits-div p g in
+    (same, omega (arith, ap (λ (x : ℕ). x * S) same))
+
+pub spaced-across : (at along n : ℕ) → 16 ≤ along → Spaced at 1 along n
+spaced-across at along n h =
+    record { apart = λ l k i j hl hk hi hj e. digits-same {S = along} l k i j (omega arith) (omega arith) (omega arith) }
+
+pub spaced-down : (at step n : ℕ) → n ≤ step → Spaced at step 1 n
+spaced-down at step n h =
+    record { apart = λ l k i j hl hk hi hj e. let (a, b) = digits-same {S = step} k l j i (omega arith) (omega arith) (omega arith) in (b, a) }
+
+spaced-table : Spaced 0 16 1 16
+spaced-table = spaced-down 0 16 16 (omega arith)
+
+-- ---- stores at places of their own
+
+pub scatter-at : (writes sample : ℕ → ℕ) (m : ℕ) (w : List ℕ) → ((i k : ℕ) → i < m → k < m → writes i ≡ writes k → i ≡ k) → (k : ℕ) → k < m → writes k < length w → getD (scatter (λ i. true) writes sample m w) (writes k) 0 ≡ sample k
+unfolding scatter
+scatter-at writes sample zero w inj k h b = absurd (omega arith)
+scatter-at writes sample (suc m) w inj k h b =
+    ⊎-elim
+    (λ (x : k < m).
+    getD-set-other (scatter (λ i. true) writes sample m w) (writes m) (writes k) (sample m) 0 (λ e. omega (arith, inj k m (omega arith) (omega arith) e))
+    ∙ scatter-at writes sample m w (λ i j p q. inj i j (omega arith) (omega arith)) k x b)
+    (λ (x : m ≤ k).
+    let y : k ≡ m = omega arith in
+    rw y (getD-set-same (scatter (λ i. true) writes sample m w) (writes m) (sample m) 0 (omega (arith, scatter-length (λ i. true) writes sample m w, ap writes y))))
+    (split k m)
+
+scatter-below : (b : ℕ) (writes sample : ℕ → ℕ) (m : ℕ) (w : List ℕ) → ((k : ℕ) → k < m → sample k < b) → ((j : ℕ) → getD w j 0 < b) → (j : ℕ) → getD (scatter (λ i. true) writes sample m w) j 0 < b
+unfolding scatter
+scatter-below b writes sample zero w h g j = g j
+scatter-below b writes sample (suc m) w h g j =
+    set-below b (scatter (λ i. true) writes sample m w) (writes m) (sample m) j (h m (omega arith)) (scatter-below b writes sample m w (λ k l. h k (omega arith)) g j)
+
+module _ (at step along N lo m : ℕ) (v : ℕ → ℕ → ℕ) (w : List ℕ) where
+  pub spread-no-lanes : Spread at step along 0 lo m v w w
+  spread-no-lanes = record { long = refl; done = λ l k a. absurd (omega arith); kept = λ j h. refl }
+
+  pub spread-no-taps : (n : ℕ) → Spread at step along n lo 0 v w w
+  spread-no-taps n = record { long = refl; done = λ l k a b d. absurd (omega arith); kept = λ j h. refl }
+
+  -- a position more
+  pub spread-lane : (n : ℕ) (u r : List ℕ) (writes sample : ℕ → ℕ) → Spaced at step along N → n < N → lo + m ≤ 16 → ((k : ℕ) → k < 16 → placeOf at step along n k < length w)
+      → ((k : ℕ) → k < m → writes k ≡ placeOf at step along n (lo + k)) → ((k : ℕ) → k < m → sample k ≡ v n (lo + k)) → Spread at step along n lo m v w u → r ≡ scatter (λ k. true) writes sample m u → Spread at step along (n + 1) lo m v w r
+  spread-lane n u r writes sample s few taps lent is-write is-sample inv made = rw made record {
+    long = scatter-length (λ k. true) writes sample m u ∙ inv .long;
+    done = λ l k a b d.
+        ⊎-elim
+        (λ (x : l < n).
+        scatter-other (λ k. true) writes sample m u (placeOf at step along l k) 0 (λ i g t e. omega (arith, s .apart l k n (lo + i) (omega arith) (omega arith) few (omega arith) (e ∙ is-write i g) .0))
+        ∙ inv .done l k x b d)
+        (λ (x : n ≤ l). let y : l ≡ n = omega arith in rw y (last k b d))
+        (split l n);
+    kept = λ j h.
+        scatter-other (λ k. true) writes sample m u j 0 (λ i g t e. h n (lo + i) (omega arith) (omega arith) (omega arith) (e ∙ is-write i g))
+        ∙ inv .kept j (λ l k a. h l k (omega arith));
+  }
+    where
+      inj : (i k : ℕ) → i < m → k < m → writes i ≡ writes k → i ≡ k
+      inj i k a b e =
+          omega (arith, s .apart n (lo + i) n (lo + k) few (omega arith) few (omega arith) (sym (is-write i a) ∙ e ∙ is-write k b) .1)
+
+      last : (k : ℕ) → lo ≤ k → k < lo + m → getD (scatter (λ k. true) writes sample m u) (placeOf at step along n k) 0 ≡ v n k
+      last k b d =
+          let y : lo + (k - lo) ≡ k = omega arith in
+          let h : k - lo < m = omega arith in
+          let place : writes (k - lo) ≡ placeOf at step along n k = is-write (k - lo) h ∙ ap (placeOf at step along n) y in
+          ap (λ (i : ℕ). getD (scatter (λ k. true) writes sample m u) i 0) (sym place)
+          ∙ scatter-at writes sample m u inj (k - lo) h (omega (arith, lent k (omega arith), inv .long, place))
+          ∙ is-sample (k - lo) h
+          ∙ ap (v n) y
+
+  -- a tap more
+  pub spread-tap : (n : ℕ) (u r : List ℕ) (writes sample : ℕ → ℕ) → Spaced at step along N → n ≤ N → lo + m < 16 → ((l : ℕ) → l < n → placeOf at step along l (lo + m) < length w)
+      → ((l : ℕ) → l < n → writes l ≡ placeOf at step along l (lo + m)) → ((l : ℕ) → l < n → sample l ≡ v l (lo + m)) → Spread at step along n lo m v w u → r ≡ scatter (λ l. true) writes sample n u → Spread at step along n lo (m + 1) v w r
+  spread-tap n u r writes sample s few taps lent is-write is-sample inv made = rw made record {
+    long = scatter-length (λ k. true) writes sample n u ∙ inv .long;
+    done = λ l k a b d.
+        ⊎-elim
+        (λ (x : k < lo + m).
+        scatter-other (λ k. true) writes sample n u (placeOf at step along l k) 0 (λ i g t e. omega (arith, s .apart l k i (lo + m) (omega arith) (omega arith) (omega arith) (omega arith) (e ∙ is-write i g) .1))
+        ∙ inv .done l k a b x)
+        (λ (x : lo + m ≤ k). let y : k ≡ lo + m = omega arith in rw y (last l a))
+        (split k (lo + m));
+    kept = λ j h.
+        scatter-other (λ k. true) writes sample n u j 0 (λ i g t e. h i (lo + m) g (omega arith) (omega arith) (e ∙ is-write i g))
+        ∙ inv .kept j (λ l k a b d. h l k a b (omega arith));
+  }
+    where
+      inj : (i k : ℕ) → i < n → k < n → writes i ≡ writes k → i ≡ k
+      inj i k a b e =
+          s .apart i (lo + m) k (lo + m) (omega arith) taps (omega arith) taps (sym (is-write i a) ∙ e ∙ is-write k b) .0
+
+      last : (l : ℕ) → l < n → getD (scatter (λ k. true) writes sample n u) (placeOf at step along l (lo + m)) 0 ≡ v l (lo + m)
+      last l a =
+          ap (λ (i : ℕ). getD (scatter (λ k. true) writes sample n u) i 0) (sym (is-write l a))
+          ∙ scatter-at writes sample n u inj l a (omega (arith, lent l a, inv .long, is-write l a))
+          ∙ is-sample l a
+
+-- ---- the table
+
+zeros-small : (n i : ℕ) → getD (replicate n 0) i 0 < 4096
+zeros-small zero i = omega arith
+zeros-small (suc n) zero = omega arith
+zeros-small (suc n) (suc i) = zeros-small n i
+
+module _ (at step along N lo m : ℕ) (w : List ℕ) where
+  pub loaded-no-lanes : Loaded at step along 0 lo m w (replicate 256 0)
+  loaded-no-lanes = record { spread = spread-no-lanes 0 16 1 16 lo m _ (replicate 256 0); small = zeros-small 256 }
+
+  pub loaded-no-taps : (n : ℕ) → Loaded at step along n lo 0 w (replicate 256 0)
+  loaded-no-taps n = record { spread = spread-no-taps 0 16 1 16 lo m _ (replicate 256 0) n; small = zeros-small 256 }
+
+  room : (l k : ℕ) → l < 16 → k < 16 → placeOf 0 16 1 l k < length {A = ℕ} (replicate 256 0)
+  room l k a b = omega (arith, length-replicate {A = ℕ} 256 0)
+
+  pub loaded-lane : (n : ℕ) (t u : List ℕ) (reads : ℕ → ℕ) → LaneRun at step along N w → n < N → lo + m ≤ 16 → ((k : ℕ) → k < m → reads k ≡ placeOf at step along n (lo + k)) → Loaded at step along n lo m w t
+      → u ≡ scatter (λ k. true) (λ k. 16 * (lo + k) + n) (λ k. getD w (reads k) 0) m t → Loaded at step along (n + 1) lo m w u
+  loaded-lane n t u reads r few taps is inv e =
+      let le = r .few in
+      rw e record {
+        spread = spread-lane 0 16 1 16 lo m _ (replicate 256 0) n t _ (λ k. 16 * (lo + k) + n) (λ k. getD w (reads k) 0) spaced-table (omega arith) taps (λ k b. room n k (omega arith) b) (λ k b. omega arith) (λ k b. ap (λ (i : ℕ). getD w i 0) (is k b)) (inv .spread) refl;
+        small = scatter-below 4096 (λ k. 16 * (lo + k) + n) (λ k. getD w (reads k) 0) m t (λ k b. rw (is k b) (r .small n (lo + k) few (omega arith))) (inv .small);
+      }
+
+  pub loaded-tap : (n : ℕ) (t u : List ℕ) (reads : ℕ → ℕ) → LaneRun at step along n w → lo + m < 16 → ((l : ℕ) → l < n → reads l ≡ placeOf at step along l (lo + m)) → Loaded at step along n lo m w t
+      → u ≡ scatter (λ l. true) (λ l. 16 * (lo + m) + l) (λ l. getD w (reads l) 0) n t → Loaded at step along n lo (m + 1) w u
+  loaded-tap n t u reads r taps is inv e =
+      let le = r .few in
+      rw e record {
+        spread = spread-tap 0 16 1 16 lo m _ (replicate 256 0) n t _ (λ l. 16 * (lo + m) + l) (λ l. getD w (reads l) 0) spaced-table (omega arith) taps (λ l b. room l (lo + m) (omega arith) taps) (λ l b. omega arith) (λ l b. ap (λ (i : ℕ). getD w i 0) (is l b)) (inv .spread) refl;
+        small = scatter-below 4096 (λ l. 16 * (lo + m) + l) (λ l. getD w (reads l) 0) n t (λ l b. rw (is l b) (r .small l (lo + m) b taps)) (inv .small);
+      }
+
+  pub loaded-table : (n : ℕ) (t : List ℕ) → Loaded at step along n lo m w t → Table t
+  loaded-table n t inv = record { long = inv .spread .long ∙ length-replicate {A = ℕ} 256 0; small = λ i b. inv .small i }
