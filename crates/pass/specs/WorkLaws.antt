@@ -8,7 +8,7 @@ use native.Mathlib.Numerals.{add-one}
 use native.Mathlib.Omega.{arith}
 use lib.ListN.{length}
 use borrow.Author.Tests.{ltb-true, lt-ltb, le-ltb}
-use Rattle.base.specs.Depth.{supported}
+use Rattle.base.specs.Depth.{supported, depth-scaled}
 use Rattle.decided.specs.CellRunLaws.{cellAt, cellsOf, Uniform, cell-uniform, longer-uniform}
 use Rattle.decided.specs.CellWalk.{Fresh, closed, grown, walked, pending, walked-one, pending-one, walked-append, pending-append, grown-all, edges-some, walked-runs}
 use Rattle.decided.specs.Decided.{Position, position, Setting, decisionAt, decided, filters}
@@ -48,6 +48,10 @@ pub record Ready (g : WindowShape) (t : Setting) (samples : List ℕ) : Type 0 w
   pub cells : cellsFrom (t .superblock .row) (t .superblock .cols) (t .superblock .rows) ≤ length (t .cells)
   pub sharpness : t .sharpness ≤ 7
   pub depth : supported (t .depth) ≡ true
+
+-- 12 bits hold samples of every depth
+pub depth-12 : (depth : ℕ) → supported depth ≡ true → 2 ^ depth ≤ 4096
+depth-12 depth h = let d = depth-scaled depth h in omega (arith, d .range, d .small)
 
 -- ---- steps keep the length of the list, and samples in range
 

@@ -1,19 +1,24 @@
 -- Laws of runs, for the code.
 -- Assumes nothing.
-use mathlib.Core.Path.{_≡_, ap, _∙_}
+use mathlib.Core.Path.{_≡_, refl, ap, _∙_}
+use mathlib.Core.Logic.{_⊎_, inl, inr}
 use mathlib.Core.Bool.{Bool, true}
 use mathlib.Core.List.{List}
 use Prim.Native.Nat.{ℕ, _+_, _*_, _≤_, _<_}
-use native.Mathlib.Nat.{mul-le-mul-right, zero-add}
+use native.Mathlib.Nat.{zero-add}
 use native.Mathlib.Omega.{arith}
 use lib.ListN.{length, getD, set}
 use Rattle.base.specs.Filled.{filled, filled-more, filled-at, length-filled}
 use Rattle.geometry.specs.declared.Pass.{Pass}
 use Rattle.geometry.specs.declared.Pass.the-variants.{Vertical, Horizontal}
-use Rattle.window.specs.declared.WindowShape.{WindowShape}
+use Rattle.lane_runs.specs.Spread.{Spaced, LaneRun}
+use Rattle.lane_runs.specs.SpreadLaws.{spaced-across, spaced-down}
+use Rattle.window.specs.InsideRun.{insideRun, InsideRun, inside-run, firstTap, tapStep, alongStep, run-tap}
+use Rattle.window.specs.RangeLaws.{InRange}
 use Rattle.window.specs.Stencil.{Stencil, gather, put, scatter, applied, inTurn}
 use Rattle.window.specs.StencilLaws.{gather-filled, scatter-more, in-turn-more}
-use Rattle.window.specs.InsideRun.{insideRun, inside-run}
+use Rattle.window.specs.WindowLaws.{Lent, place-lent}
+use Rattle.window.specs.declared.WindowShape.{WindowShape}
 
 -- p7 of (x, y) is not left of the plane or above the window
 abbrev pub Near : WindowShape → Pass → (x y : ℕ) → Type 0
@@ -24,13 +29,24 @@ pub inside-near : (g : WindowShape) (pass : Pass) (x y n : ℕ) → insideRun g 
 inside-near g Vertical x y n e = let h = inside-run g Vertical x y n e in (h .0, h .2)
 inside-near g Horizontal x y n e = inside-run g Horizontal x y n e .1
 
--- the samples of a plain run are lent: tap j of position k
-pub record PlainLent (at step along n lent : ℕ) : Type 0 where
-  pub tap : (k j : ℕ) → k < n → j < 16 → at + k * along + j * step < lent
+-- in one direction taps stand side by side, in the other positions
+pub one-step : (g : WindowShape) (pass : Pass) → (tapStep g pass ≡ 1) ⊎ (alongStep g pass ≡ 1)
+one-step g Vertical = inl refl
+one-step g Horizontal = inr refl
 
--- a tap before the last
-pub tap-lent : (at step n k : ℕ) → at + 15 * step < n → k < 16 → at + k * step < n
-tap-lent at step n k h l = let m : k ≤ 15 = omega arith in omega (arith, mul-le-mul-right step m)
+spaced : (g : WindowShape) (pass : Pass) (at x y n : ℕ) → g .width ≤ g .stride → InsideRun g pass x y n → Spaced at (tapStep g pass) (alongStep g pass) n
+spaced g Vertical at x y n w h = spaced-across at (g .stride) n (omega arith)
+spaced g Horizontal at x y n w h = spaced-down at (g .stride) n (omega arith)
+
+-- a run inside the window can be filtered in lanes
+pub inside-lanes : (g : WindowShape) (pass : Pass) (x y n : ℕ) (samples : List ℕ) → Lent g (length samples) → insideRun g pass x y n ≡ true → n ≤ 16 → InRange g 4096 samples
+    → LaneRun (firstTap g pass x y) (tapStep g pass) (alongStep g pass) n samples
+inside-lanes g pass x y n samples w e few r = record {
+  few = few;
+  spaced = spaced g pass (firstTap g pass x y) x y n (w .rows) (inside-run g pass x y n e);
+  lent = λ l k h m. let t = run-tap g pass x y n l k e h m in rw (t .is) (place-lent g (length samples) (t .x′) (t .y′) w (t .inside));
+  small = λ l k h m. let t = run-tap g pass x y n l k e h m in rw (t .is) (r .below (t .x′) (t .y′) (t .inside));
+}
 
 -- one more tap of a loop that loads, and all of them
 pub filled-next : (f : ℕ → ℕ) (n : ℕ) (t : List ℕ) → set (filled f 0 n t) n (f n) ≡ filled f 0 (n + 1) t

@@ -9,15 +9,15 @@ ghost use Rattle.window.specs.Stencil.{inTurn};
 ghost use Rattle.window.specs.Window.{runOf};
 ghost use Rattle.window.specs.WindowLaws.{Lent};
 ghost use Rattle.window.specs.InsideRun.{insideRun};
+ghost use Rattle.window.specs.RangeLaws.{InRange};
 
 mod border;
-mod inside;
 mod place;
 
 use border::filter_border;
 use geometry::Pass;
 use geometry::Plane;
-use inside::filter_inside;
+use lane_runs::filter_lane_run_unchecked;
 use place::along_step;
 use place::first_tap;
 use place::tap_step;
@@ -38,8 +38,8 @@ fn is_inside(g: WindowShape, pass: Pass, x: usize, y: usize, n: usize) -> bool
     }
 }
 
-// n positions along an edge by one filter size and strength, the first with q0 at (x, y). The work without tests, for a caller
-// that has made them.
+// n positions along an edge by one filter size and strength, the first with q0 at (x, y). Inside the window they are filtered in
+// lanes, which ask for samples of 12 bits. The work without tests, for a caller that has made them.
 pub fn filter_run_unchecked(
     samples: &mut [u16],
     g: WindowShape,
@@ -51,12 +51,12 @@ pub fn filter_run_unchecked(
     size: u8,
     strength: FilterStrength,
 )
-    requires { ⌜ Lent g (length (now samples)) × (x .0 ≤ 131072) × (y .0 ≤ 131072) × (n ≤ 64) × (supported depth ≡ true) ⌝ }
+    requires { ⌜ Lent g (length (now samples)) × (x .0 ≤ 131072) × (y .0 ≤ 131072) × (n ≤ 16) × (supported depth ≡ true) × (size ≤ 2) × InRange g 4096 (now samples) ⌝ }
     ensures { λ r. ⌜ now (samples .exit) ≡ inTurn (runOf g pass (x .0) (y .0) (sampleFiltering depth size (strength .limit) (strength .blimit) (strength .thresh))) n (now (samples .entry)) ⌝ }
 {
     if is_inside(g, pass, x.0, y.0, n) {
         let at = first_tap(g, pass, x.0, y.0);
-        filter_inside(
+        filter_lane_run_unchecked(
             samples,
             at,
             tap_step(g, pass),

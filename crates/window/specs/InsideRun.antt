@@ -13,7 +13,7 @@ use Rattle.geometry.specs.declared.Pass.the-variants.{Vertical, Horizontal}
 use Rattle.window.specs.Stencil.{Stencil, applied, inTurn}
 use Rattle.window.specs.StencilLaws.{applied-same}
 use Rattle.window.specs.Window.{place, clamp, tapRead, tapStored, tapWritten, alongX, alongY, runOf}
-use Rattle.window.specs.WindowLaws.{Lent, place-lent, both, among-yes}
+use Rattle.window.specs.WindowLaws.{Inside, both, among-yes}
 use Rattle.window.specs.declared.WindowShape.{WindowShape}
 
 -- all taps of n positions from (x, y) on are in the window
@@ -107,13 +107,17 @@ run-plain g pass x y n line w e =
     in-turn-same _ _ n w (λ k l u. applied-same _ (runOf g pass x y line k) u refl
     (λ j m. sym (run-read g x y n k j l m pass h)) (λ j m. sym (run-stored g x y n k j l m pass h)) (λ j m. sym (run-written g x y n k j l m pass h)))
 
--- and its samples are lent: tap j of position k
-pub run-lent : (g : WindowShape) (lent : ℕ) (pass : Pass) (x y n k j : ℕ) → Lent g lent → insideRun g pass x y n ≡ true → k < n → j < 16 → firstTap g pass x y + k * alongStep g pass + j * tapStep g pass < lent
-run-lent g lent Vertical x y n k j s e l m =
+-- tap j of position k is a sample of the window
+pub record RunTap (g : WindowShape) (pass : Pass) (x y k j : ℕ) : Type 0 where
+  pub x′ : ℕ
+  pub y′ : ℕ
+  pub inside : Inside g x′ y′
+  pub is : firstTap g pass x y + k * alongStep g pass + j * tapStep g pass ≡ place g x′ y′
+
+pub run-tap : (g : WindowShape) (pass : Pass) (x y n k j : ℕ) → insideRun g pass x y n ≡ true → k < n → j < 16 → RunTap g pass x y k j
+run-tap g Vertical x y n k j e l m =
     let h = inside-run g Vertical x y n e in
-    let p = place-lent g lent (x - 8 + j) (y + k) s (record { right = omega arith; above = omega arith; below = omega arith }) in
-    omega (arith, rows-down g (x - 8 + j) y k (h .2))
-run-lent g lent Horizontal x y n k j s e l m =
+    record { x′ = x - 8 + j; y′ = y + k; inside = record { right = omega arith; above = omega arith; below = omega arith }; is = omega (arith, rows-down g (x - 8) y k (h .2)) }
+run-tap g Horizontal x y n k j e l m =
     let h = inside-run g Horizontal x y n e in
-    let p = place-lent g lent (x + k) (y - 8 + j) s (record { right = omega arith; above = omega arith; below = omega arith }) in
-    omega (arith, rows-down g (x + k) (y - 8) j (omega arith))
+    record { x′ = x + k; y′ = y - 8 + j; inside = record { right = omega arith; above = omega arith; below = omega arith }; is = omega (arith, rows-down g x (y - 8) j (omega arith)) }

@@ -58,3 +58,6 @@ position-range g bound pass x y filters line samples wide tall keeps r =
     tap k l =
         rw (gather-at (stencil g pass x y filters line .reads) 0 16 samples k l, zero-add k)
         (r .below _ _ (clamp-inside g wide tall (tapX pass x k - 8) (tapY pass y k - 8)))
+
+pub range-wider : (g : WindowShape) (bound wider : ℕ) (samples : List ℕ) → bound ≤ wider → InRange g bound samples → InRange g wider samples
+range-wider g bound wider samples h r = record { below = λ x y i. omega (arith, r .below x y i) }

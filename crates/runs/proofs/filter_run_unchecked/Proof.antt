@@ -1,9 +1,10 @@
 use borrow.Author.Needs.{needs}
 use mathlib.Core.Path.{_≡_, sym, _∙_}
 use mathlib.Core.Bool.{true}
+use native.Mathlib.Omega.{arith}
 use Rattle.line.specs.SampleFiltering.{sampleFiltering}
-use Rattle.window.specs.InsideRun.{insideRun, run-plain, run-lent}
-use Rattle.runs.specs.RunsLaws.{inside-near}
+use Rattle.window.specs.InsideRun.{insideRun, run-plain}
+use Rattle.runs.specs.RunsLaws.{inside-near, inside-lanes, one-step}
 use Rattle.runs.proofs.filter_run_unchecked.Statement.{statement}
 use Rattle.runs.proofs.filter_run_unchecked.Tie as tie
 
@@ -16,13 +17,13 @@ first-tap-requires c κs =
     let a = s .args in
     (inside-near (a .g) (a .pass) (a .x .0) (a .y .0) (a .n) (inside c), s .pre .1, s .pre .2, s .pre .0 .far)
 
-filter-inside-requires : tie.Need-filter-inside-requires
-filter-inside-requires c κs =
+filter-lane-run-unchecked-requires : tie.Need-filter-lane-run-unchecked-requires
+filter-lane-run-unchecked-requires c κs =
     let first = c .before .before .before in
     let s = first .before .before .before .before in
     let a = s .args in
     rw (first .first-tap .ensures, c .before .tap-step .ensures, c .along-step .ensures)
-    (record { tap = λ k j l m. run-lent (a .g) _ (a .pass) (a .x .0) (a .y .0) (a .n) k j (s .pre .0) (inside (first .before)) l m }, s .pre .4)
+    (inside-lanes (a .g) (a .pass) (a .x .0) (a .y .0) (a .n) (a .samples .now) (s .pre .0) (inside (first .before)) (s .pre .3) (s .pre .6), one-step (a .g) (a .pass), s .pre .4, s .pre .5)
 
 returns : tie.Need-returns
 returns c =
@@ -30,7 +31,7 @@ returns c =
     let step = along .before in
     let first = step .before .before in
     let a = first .before .before .before .before .args in
-    (rw (first .first-tap .ensures, step .tap-step .ensures, along .along-step .ensures) at (c .before .before .filter-inside .ensures))
+    (rw (first .first-tap .ensures, step .tap-step .ensures, along .along-step .ensures) at (c .before .before .filter-lane-run-unchecked .ensures))
     ∙ run-plain (a .g) (a .pass) (a .x .0) (a .y .0) (a .n) (sampleFiltering (a .depth) (a .size) (a .strength .limit) (a .strength .blimit) (a .strength .thresh)) (a .samples .now) (inside (first .before))
 
 pub filter-run-unchecked-spec : {M : Type 1} → statement M
@@ -41,8 +42,8 @@ filter-run-unchecked-spec =
     first-tap-requires
     (search needs)
     (search needs)
-    filter-inside-requires
-    (λ c κs. c .before .before .before .before .pre)
+    filter-lane-run-unchecked-requires
+    (λ c κs. let p = c .before .before .before .before .pre in (p .0, p .1, p .2, omega (arith, p .3), p .4))
     (search needs)
     returns
     (search needs)

@@ -1,6 +1,7 @@
 use borrow.Author.Needs.{needs}
 use native.Mathlib.Omega.{arith}
-use Rattle.pass.specs.WorkLaws.{filtered-on, filtered-off}
+use Rattle.window.specs.RangeLaws.{range-wider}
+use Rattle.pass.specs.WorkLaws.{filtered-on, filtered-off, depth-12}
 use Rattle.pass.proofs.edge.filter_pending.Statement.{statement}
 use Rattle.pass.proofs.edge.filter_pending.Tie as tie
 
@@ -10,7 +11,7 @@ strength-by-unchecked-requires c κs = let p = c .before .before .before .before
 filter-run-unchecked-requires : tie.Need-filter-run-unchecked-requires
 filter-run-unchecked-requires c κs =
     let p = c .before .before .before .before .before .before .before .pre in
-    (p .0, omega (arith, c .before .before .before .plane-x-unchecked .ensures .1), omega (arith, c .before .before .plane-y-unchecked .ensures .1), omega (arith, p .3 .count), p .5)
+    (p .0, omega (arith, c .before .before .before .plane-x-unchecked .ensures .1), omega (arith, c .before .before .plane-y-unchecked .ensures .1), p .3 .count, p .5, p .3 .size, range-wider _ _ 4096 _ (depth-12 _ (p .5)) (p .1))
 
 returns : tie.Need-returns
 returns c =
