@@ -11,7 +11,7 @@ ghost use Rattle.lane_runs.specs.Spread.{Spread, LaneRun, Loaded};
 use lanes::filter_lanes_unchecked;
 use strength::FilterStrength;
 
-fn load_row(t: &mut [u16; 256], k: usize, samples: &[u16], at: usize, n: usize)
+fn load_row_of(t: &mut [u16; 256], k: usize, samples: &[u16], at: usize, n: usize)
     requires { ⌜ (k < 16) × (n ≤ 16) × (at + n ≤ length (now samples)) ⌝ }
     ensures { λ r. ⌜ now (t .exit) ≡ scatter (λ l. true) (λ l. 16 * k + l) (λ l. getD (now (samples .entry)) (at + l) 0) n (now (t .entry)) ⌝ }
 {
@@ -20,6 +20,22 @@ fn load_row(t: &mut [u16; 256], k: usize, samples: &[u16], at: usize, n: usize)
         t[16 * k + l] = samples[at + l];
         l += 1;
     }
+}
+
+// The usual lengths as constants, which copies by vectors.
+fn load_row(t: &mut [u16; 256], k: usize, samples: &[u16], at: usize, n: usize)
+    requires { ⌜ (k < 16) × (n ≤ 16) × (at + n ≤ length (now samples)) ⌝ }
+    ensures { λ r. ⌜ now (t .exit) ≡ scatter (λ l. true) (λ l. 16 * k + l) (λ l. getD (now (samples .entry)) (at + l) 0) n (now (t .entry)) ⌝ }
+{
+    if n == 16 {
+        load_row_of(t, k, samples, at, 16);
+        return;
+    }
+    if n == 8 {
+        load_row_of(t, k, samples, at, 8);
+        return;
+    }
+    load_row_of(t, k, samples, at, n);
 }
 
 // The m taps from lo on.
@@ -36,7 +52,7 @@ fn gather_rows(samples: &[u16], at: usize, step: usize, n: usize, lo: usize, m: 
     t
 }
 
-fn store_row(samples: &mut [u16], at: usize, t: &[u16; 256], k: usize, n: usize)
+fn store_row_of(samples: &mut [u16], at: usize, t: &[u16; 256], k: usize, n: usize)
     requires { ⌜ (k < 16) × (n ≤ 16) × (at + n ≤ length (now samples)) ⌝ }
     ensures { λ r. ⌜ now (samples .exit) ≡ scatter (λ l. true) (λ l. at + l) (λ l. getD (now (t .entry)) (16 * k + l) 0) n (now (samples .entry)) ⌝ }
 {
@@ -45,6 +61,21 @@ fn store_row(samples: &mut [u16], at: usize, t: &[u16; 256], k: usize, n: usize)
         samples[at + l] = t[16 * k + l];
         l += 1;
     }
+}
+
+fn store_row(samples: &mut [u16], at: usize, t: &[u16; 256], k: usize, n: usize)
+    requires { ⌜ (k < 16) × (n ≤ 16) × (at + n ≤ length (now samples)) ⌝ }
+    ensures { λ r. ⌜ now (samples .exit) ≡ scatter (λ l. true) (λ l. at + l) (λ l. getD (now (t .entry)) (16 * k + l) 0) n (now (samples .entry)) ⌝ }
+{
+    if n == 16 {
+        store_row_of(samples, at, t, k, 16);
+        return;
+    }
+    if n == 8 {
+        store_row_of(samples, at, t, k, 8);
+        return;
+    }
+    store_row_of(samples, at, t, k, n);
 }
 
 fn scatter_rows(
@@ -66,7 +97,7 @@ fn scatter_rows(
     }
 }
 
-// A run at size 0, 1 and 2.
+// A run at size 0, 1 and 2, with the taps that the size reads and those that it can change.
 
 fn down_four(
     samples: &mut [u16],

@@ -1,40 +1,17 @@
 use borrow.Author.Needs.{needs}
-use mathlib.Core.Path.{_≡_, refl}
-use mathlib.Core.Bool.{true}
-use Prim.Native.Nat.{_+_, _-_, _*_, _≤_, _<_}
-use native.Mathlib.Omega.{arith}
-use lib.ListN.{length, getD, length-set}
-use denote.Ref.{now}
-use Rattle.window.specs.Stencil.{scatter}
-use Rattle.window.specs.StencilLaws.{scatter-none, scatter-more}
 use Rattle.lane_runs.proofs.down.store_row.Statement.{statement}
 use Rattle.lane_runs.proofs.down.store_row.Tie as tie
 
-abbrev Inv-loop : tie.InvT-loop
-Inv-loop samples₀ at t k n l₀ samples l =
-    (l ≤ n) × (length samples ≡ length samples₀) × (samples ≡ scatter (λ i. true) (λ i. at + i) (λ i. getD t (16 * k + i) 0) l samples₀)
+returns : tie.Need-returns
+returns c = rw (c .before .before .before .before .if1 .taken) (c .before .before .store-row-of .ensures)
 
-abbrev μ-loop : tie.MeasureT-loop
-μ-loop samples₀ at t k n l₀ samples l = n - l
+returns-2 : tie.Need-returns-2
+returns-2 c = rw (c .before .before .before .before .if2 .taken) (c .before .before .store-row-of2 .ensures)
 
-loop-holds : tie.Need-loop-holds Inv-loop μ-loop
-loop-holds c = (omega arith, refl, scatter-none _ _ _ _)
-
-loop-again : tie.Need-loop-again Inv-loop μ-loop
-loop-again c =
-    let l = c .before .before .loop in
-    let a = c .before .before .before .args in (
-      omega arith,
-      simp length-set (l .inv .1),
-      rw (l .inv .2) (scatter-more (λ i. true) (λ i. a .at + i) (λ i. getD (now (a .t)) (16 * a .k + i) 0) (l .l) (now (a .samples))),
-    )
-
-returns : tie.Need-returns Inv-loop μ-loop
-returns c =
-    let all : c .before .loop .l ≡ c .before .before .args .n = omega arith in
-    rw all at (c .before .loop .inv .2)
+returns-3 : tie.Need-returns-3
+returns-3 c = c .before .before .store-row-of3 .ensures
 
 pub store-row-spec : {M : Type 1} → statement M
 store-row-spec =
     tie.close
-    (tie.spec Inv-loop μ-loop loop-holds (λ c. omega arith) (λ c. omega arith) (λ c. omega arith) (λ c. omega arith) (λ c. omega arith) (λ c. omega arith) (λ c. omega arith) (search needs) (search needs) loop-again (search needs) returns)
+    (tie.spec (λ c κs. search needs) (λ c. search needs) returns (λ c κs. search needs) (λ c. search needs) returns-2 (λ c κs. search needs) (λ c. search needs) returns-3)
