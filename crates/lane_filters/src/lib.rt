@@ -94,7 +94,7 @@ fn with_six(a: Lane, r: Six) -> Lane
 }
 
 // Whether a filter is on at all.
-pub fn lane_mask(a: Lane, depth: u8, limit: u8, blimit: u8) -> bool
+pub fn lane_mask_unchecked(a: Lane, depth: u8, limit: u8, blimit: u8) -> bool
     requires { ⌜ (supported depth ≡ true) × Small a ⌝ }
     ensures { λ r. ⌜ r ≡ filterMask (scaled depth limit) (scaled depth blimit) (samplesOf a) ⌝ }
 {
@@ -103,11 +103,11 @@ pub fn lane_mask(a: Lane, depth: u8, limit: u8, blimit: u8) -> bool
 
 // A lane at size 0, 1 and 2. The samples of the answer are those that can change.
 
-pub fn lane_four(a: Lane, depth: u8, limit: u8, blimit: u8, thresh: u8) -> Four
+pub fn lane_four_unchecked(a: Lane, depth: u8, limit: u8, blimit: u8, thresh: u8) -> Four
     requires { ⌜ (supported depth ≡ true) × Small a ⌝ }
     ensures { λ r. ⌜ putTaps (samplesOf a) 6 (fourOf r) ≡ sampleFiltering depth 0 limit blimit thresh (samplesOf a) ⌝ }
 {
-    if !lane_mask(a, depth, limit, blimit) {
+    if !lane_mask_unchecked(a, depth, limit, blimit) {
         return Four {
             p1: a.p1,
             p0: a.p0,
@@ -119,11 +119,11 @@ pub fn lane_four(a: Lane, depth: u8, limit: u8, blimit: u8, thresh: u8) -> Four
     narrow_filter(a, hev, depth)
 }
 
-pub fn lane_six(a: Lane, depth: u8, limit: u8, blimit: u8, thresh: u8) -> Six
+pub fn lane_six_unchecked(a: Lane, depth: u8, limit: u8, blimit: u8, thresh: u8) -> Six
     requires { ⌜ (supported depth ≡ true) × Small a ⌝ }
     ensures { λ r. ⌜ putTaps (samplesOf a) 5 (sixOf r) ≡ sampleFiltering depth 1 limit blimit thresh (samplesOf a) ⌝ }
 {
-    if !lane_mask(a, depth, limit, blimit) {
+    if !lane_mask_unchecked(a, depth, limit, blimit) {
         return Six {
             p2: a.p2,
             p1: a.p1,
@@ -140,11 +140,11 @@ pub fn lane_six(a: Lane, depth: u8, limit: u8, blimit: u8, thresh: u8) -> Six
     wide_filter_six(a)
 }
 
-pub fn lane_fourteen(a: Lane, depth: u8, limit: u8, blimit: u8, thresh: u8) -> Lane
+pub fn lane_fourteen_unchecked(a: Lane, depth: u8, limit: u8, blimit: u8, thresh: u8) -> Lane
     requires { ⌜ (supported depth ≡ true) × Small a ⌝ }
     ensures { λ r. ⌜ putTaps (samplesOf a) 1 (fourteenOf r) ≡ sampleFiltering depth 2 limit blimit thresh (samplesOf a) ⌝ }
 {
-    if !lane_mask(a, depth, limit, blimit) {
+    if !lane_mask_unchecked(a, depth, limit, blimit) {
         return a;
     }
     if !flat_mask(a, scaled(1, depth)) {

@@ -9,10 +9,10 @@ ghost use Rattle.lanes.specs.Lanes.{laneAt, putLane, Table, Lanes, NoneT
 use lane_filters::Four;
 use lane_filters::Lane;
 use lane_filters::Six;
-use lane_filters::lane_four;
-use lane_filters::lane_fourteen;
-use lane_filters::lane_mask;
-use lane_filters::lane_six;
+use lane_filters::lane_four_unchecked;
+use lane_filters::lane_fourteen_unchecked;
+use lane_filters::lane_mask_unchecked;
+use lane_filters::lane_six_unchecked;
 use strength::FilterStrength;
 
 fn lane_at(t: &[u16; 256], l: usize) -> Lane
@@ -100,7 +100,7 @@ fn any_mask(t: &[u16; 256], m: usize, n: u16, depth: u8, limit: u8, blimit: u8) 
     let mut l: usize = 0;
     while l < m {
         let a = lane_at(t, l);
-        on = on | (lane_mask(a, depth, limit, blimit) & ((l as u16) < n));
+        on = on | (lane_mask_unchecked(a, depth, limit, blimit) & ((l as u16) < n));
         l += 1;
     }
     on
@@ -115,7 +115,7 @@ fn lanes_four(t: &mut [u16; 256], n: usize, depth: u8, limit: u8, blimit: u8, th
     let mut l: usize = 0;
     while l < n {
         let a = lane_at(t, l);
-        let r = lane_four(a, depth, limit, blimit, thresh);
+        let r = lane_four_unchecked(a, depth, limit, blimit, thresh);
         put_four(t, l, r);
         l += 1;
     }
@@ -128,7 +128,7 @@ fn lanes_six(t: &mut [u16; 256], n: usize, depth: u8, limit: u8, blimit: u8, thr
     let mut l: usize = 0;
     while l < n {
         let a = lane_at(t, l);
-        let r = lane_six(a, depth, limit, blimit, thresh);
+        let r = lane_six_unchecked(a, depth, limit, blimit, thresh);
         put_six(t, l, r);
         l += 1;
     }
@@ -141,7 +141,7 @@ fn lanes_fourteen(t: &mut [u16; 256], n: usize, depth: u8, limit: u8, blimit: u8
     let mut l: usize = 0;
     while l < n {
         let a = lane_at(t, l);
-        let r = lane_fourteen(a, depth, limit, blimit, thresh);
+        let r = lane_fourteen_unchecked(a, depth, limit, blimit, thresh);
         put_fourteen(t, l, r);
         l += 1;
     }

@@ -23,8 +23,8 @@ loop-holds c =
 lane-at-requires : tie.Need-lane-at-requires Inv-loop μ-loop
 lane-at-requires c κs = omega (arith, c .loop-test .taken, c .before .before .pre .2)
 
-lane-mask-requires : tie.Need-lane-mask-requires Inv-loop μ-loop
-lane-mask-requires c κs =
+lane-mask-unchecked-requires : tie.Need-lane-mask-unchecked-requires Inv-loop μ-loop
+lane-mask-unchecked-requires c κs =
     let loop = c .before .before in
     let (known, table, few) = loop .before .pre in (
       known,
@@ -38,7 +38,7 @@ loop-again c =
       omega arith,
       λ e.
           let (before, off) = neither (loop .loop .on) e in
-          none-more (a .n) (a .depth) (a .limit) (a .blimit) (loop .loop .l) (now (a .t)) (c .before .lane-at .ensures) (rw (c .lane-mask .ensures) at off) (loop .loop .inv .1 before),
+          none-more (a .n) (a .depth) (a .limit) (a .blimit) (loop .loop .l) (now (a .t)) (c .before .lane-at .ensures) (rw (c .lane-mask-unchecked .ensures) at off) (loop .loop .inv .1 before),
     )
 
 returns : tie.Need-returns Inv-loop μ-loop
@@ -47,4 +47,4 @@ returns c = λ e. let all : c .before .loop .l ≡ c .before .before .args .m = 
 pub any-mask-spec : {M : Type 1} → statement M
 any-mask-spec =
     tie.close
-    (tie.spec Inv-loop μ-loop loop-holds lane-at-requires lane-mask-requires (search needs) (search needs) (search needs) loop-again returns)
+    (tie.spec Inv-loop μ-loop loop-holds lane-at-requires lane-mask-unchecked-requires (search needs) (search needs) (search needs) loop-again returns)

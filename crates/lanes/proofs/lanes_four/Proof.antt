@@ -26,8 +26,8 @@ loop-holds c =
 lane-at-requires : tie.Need-lane-at-requires Inv-loop μ-loop
 lane-at-requires c κs = omega (arith, c .before .loop-test .taken, c .before .before .before .pre .2)
 
-lane-four-requires : tie.Need-lane-four-requires Inv-loop μ-loop
-lane-four-requires c κs =
+lane-four-unchecked-requires : tie.Need-lane-four-unchecked-requires Inv-loop μ-loop
+lane-four-unchecked-requires c κs =
     let loop = c .before .before .before in
     let (known, table, few) = loop .before .pre in
     (known, rw (c .lane-at .ensures) (small-in (omega (arith, c .before .before .loop-test .taken)) table (loop .loop .inv .2)))
@@ -40,7 +40,7 @@ loop-again : tie.Need-loop-again Inv-loop μ-loop
 loop-again c =
     let lane = c .before .before .before in
     let loop = lane .before .before .before in
-    let r = c .before .before .lane-four in
+    let r = c .before .before .lane-four-unchecked in
     let more = lane-more 6 (fourOf (r .result)) (omega (arith, lane .before .before .loop-test .taken, loop .before .pre .2)) (omega arith) (loop .loop .inv .1) (loop .loop .inv .2) (lane .lane-at .ensures) (r .ensures) (c .put-four .ensures) in
     (omega arith, more .0, more .1)
 
@@ -50,4 +50,4 @@ returns c = lanes-all (c .loop-test .left) (c .before .loop .inv .2)
 pub lanes-four-spec : {M : Type 1} → statement M
 lanes-four-spec =
     tie.close
-    (tie.spec Inv-loop μ-loop loop-holds lane-at-requires lane-four-requires put-four-requires (search needs) (search needs) loop-again returns)
+    (tie.spec Inv-loop μ-loop loop-holds lane-at-requires lane-four-unchecked-requires put-four-requires (search needs) (search needs) loop-again returns)

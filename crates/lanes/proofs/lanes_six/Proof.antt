@@ -26,8 +26,8 @@ loop-holds c =
 lane-at-requires : tie.Need-lane-at-requires Inv-loop μ-loop
 lane-at-requires c κs = omega (arith, c .before .loop-test .taken, c .before .before .before .pre .2)
 
-lane-six-requires : tie.Need-lane-six-requires Inv-loop μ-loop
-lane-six-requires c κs =
+lane-six-unchecked-requires : tie.Need-lane-six-unchecked-requires Inv-loop μ-loop
+lane-six-unchecked-requires c κs =
     let loop = c .before .before .before in
     let (known, table, few) = loop .before .pre in
     (known, rw (c .lane-at .ensures) (small-in (omega (arith, c .before .before .loop-test .taken)) table (loop .loop .inv .2)))
@@ -40,7 +40,7 @@ loop-again : tie.Need-loop-again Inv-loop μ-loop
 loop-again c =
     let lane = c .before .before .before in
     let loop = lane .before .before .before in
-    let r = c .before .before .lane-six in
+    let r = c .before .before .lane-six-unchecked in
     let more = lane-more 5 (sixOf (r .result)) (omega (arith, lane .before .before .loop-test .taken, loop .before .pre .2)) (omega arith) (loop .loop .inv .1) (loop .loop .inv .2) (lane .lane-at .ensures) (r .ensures) (c .put-six .ensures) in
     (omega arith, more .0, more .1)
 
@@ -50,4 +50,4 @@ returns c = lanes-all (c .loop-test .left) (c .before .loop .inv .2)
 pub lanes-six-spec : {M : Type 1} → statement M
 lanes-six-spec =
     tie.close
-    (tie.spec Inv-loop μ-loop loop-holds lane-at-requires lane-six-requires put-six-requires (search needs) (search needs) loop-again returns)
+    (tie.spec Inv-loop μ-loop loop-holds lane-at-requires lane-six-unchecked-requires put-six-requires (search needs) (search needs) loop-again returns)

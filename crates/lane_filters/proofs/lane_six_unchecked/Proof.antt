@@ -6,14 +6,14 @@ use Rattle.base.specs.Depth.{scaled}
 use Rattle.line.specs.Masks.{flatMask}
 use Rattle.line.specs.SampleFilteringLaws.{filters-none, filters-narrow, filters-six}
 use Rattle.lane_filters.specs.LaneSamples.{samplesOf}
-use Rattle.lane_filters.proofs.lane_six.Statement.{statement}
-use Rattle.lane_filters.proofs.lane_six.Tie as tie
+use Rattle.lane_filters.proofs.lane_six_unchecked.Statement.{statement}
+use Rattle.lane_filters.proofs.lane_six_unchecked.Tie as tie
 
 returns : tie.Need-returns
 returns c =
     let m = c .before in
     let a = m .before .args in
-    filters-none (a .depth) 1 (a .limit) (a .blimit) (a .thresh) (samplesOf (a .a)) (sym (m .lane-mask .ensures) ∙ not-true (m .lane-mask .result) (c .if1 .taken))
+    filters-none (a .depth) 1 (a .limit) (a .blimit) (a .thresh) (samplesOf (a .a)) (sym (m .lane-mask-unchecked .ensures) ∙ not-true (m .lane-mask-unchecked .result) (c .if1 .taken))
 
 returns-2 : tie.Need-returns-2
 returns-2 c =
@@ -26,7 +26,7 @@ returns-2 c =
     rw (flat .flat-mask .ensures, flat .before .scaled .ensures .0) at (at-if2 .if2 .taken) in
     c .with-four .ensures
     ∙ (rw (hev .hev-mask .ensures, hev .before .scaled2 .ensures .0) at (c .before .narrow-filter .ensures))
-    ∙ filters-narrow (a .depth) 1 (a .limit) (a .blimit) (a .thresh) (samplesOf (a .a)) (sym (m .lane-mask .ensures) ∙ not-false (m .lane-mask .result) (flat .before .before .if1 .left)) rough
+    ∙ filters-narrow (a .depth) 1 (a .limit) (a .blimit) (a .thresh) (samplesOf (a .a)) (sym (m .lane-mask-unchecked .ensures) ∙ not-false (m .lane-mask-unchecked .result) (flat .before .before .if1 .left)) rough
 
 returns-3 : tie.Need-returns-3
 returns-3 c =
@@ -37,10 +37,10 @@ returns-3 c =
     let smooth : not (flatMask (scaled (a .depth) 1) (samplesOf (a .a))) ≡ false =
     rw (flat .flat-mask .ensures, flat .before .scaled .ensures .0) at (at-if2 .if2 .left) in
     c .wide-filter-six .ensures
-    ∙ filters-six (a .depth) 1 (a .limit) (a .blimit) (a .thresh) (samplesOf (a .a)) (sym (m .lane-mask .ensures) ∙ not-false (m .lane-mask .result) (flat .before .before .if1 .left)) smooth refl
+    ∙ filters-six (a .depth) 1 (a .limit) (a .blimit) (a .thresh) (samplesOf (a .a)) (sym (m .lane-mask-unchecked .ensures) ∙ not-false (m .lane-mask-unchecked .result) (flat .before .before .if1 .left)) smooth refl
 
-pub lane-six-spec : {M : Type 1} → statement M
-lane-six-spec =
+pub lane-six-unchecked-spec : {M : Type 1} → statement M
+lane-six-unchecked-spec =
     tie.close
     (tie.spec
     (λ c κs. c .pre)

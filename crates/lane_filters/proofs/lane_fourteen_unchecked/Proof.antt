@@ -6,14 +6,14 @@ use Rattle.base.specs.Depth.{scaled}
 use Rattle.line.specs.Masks.{flatMask, flatMask2}
 use Rattle.line.specs.SampleFilteringLaws.{filters-none, filters-narrow, filters-six, filters-fourteen}
 use Rattle.lane_filters.specs.LaneSamples.{samplesOf}
-use Rattle.lane_filters.proofs.lane_fourteen.Statement.{statement}
-use Rattle.lane_filters.proofs.lane_fourteen.Tie as tie
+use Rattle.lane_filters.proofs.lane_fourteen_unchecked.Statement.{statement}
+use Rattle.lane_filters.proofs.lane_fourteen_unchecked.Tie as tie
 
 returns : tie.Need-returns
 returns c =
     let m = c .before in
     let a = m .before .args in
-    filters-none (a .depth) 2 (a .limit) (a .blimit) (a .thresh) (samplesOf (a .a)) (sym (m .lane-mask .ensures) ∙ not-true (m .lane-mask .result) (c .if1 .taken))
+    filters-none (a .depth) 2 (a .limit) (a .blimit) (a .thresh) (samplesOf (a .a)) (sym (m .lane-mask-unchecked .ensures) ∙ not-true (m .lane-mask-unchecked .result) (c .if1 .taken))
 
 returns-2 : tie.Need-returns-2
 returns-2 c =
@@ -27,7 +27,7 @@ returns-2 c =
     c .with-six .ensures
     ∙ c .before .with-four .ensures
     ∙ (rw (hev .hev-mask .ensures, hev .before .scaled2 .ensures .0) at (c .before .before .narrow-filter .ensures))
-    ∙ filters-narrow (a .depth) 2 (a .limit) (a .blimit) (a .thresh) (samplesOf (a .a)) (sym (m .lane-mask .ensures) ∙ not-false (m .lane-mask .result) (flat .before .before .if1 .left)) rough
+    ∙ filters-narrow (a .depth) 2 (a .limit) (a .blimit) (a .thresh) (samplesOf (a .a)) (sym (m .lane-mask-unchecked .ensures) ∙ not-false (m .lane-mask-unchecked .result) (flat .before .before .if1 .left)) rough
 
 returns-3 : tie.Need-returns-3
 returns-3 c =
@@ -43,7 +43,7 @@ returns-3 c =
     rw (flat2 .flat-mask2 .ensures, flat2 .before .scaled3 .ensures .0) at (at-if3 .if3 .taken) in
     c .with-six2 .ensures
     ∙ c .before .wide-filter-six .ensures
-    ∙ filters-six (a .depth) 2 (a .limit) (a .blimit) (a .thresh) (samplesOf (a .a)) (sym (m .lane-mask .ensures) ∙ not-false (m .lane-mask .result) (flat .before .before .if1 .left)) smooth rough
+    ∙ filters-six (a .depth) 2 (a .limit) (a .blimit) (a .thresh) (samplesOf (a .a)) (sym (m .lane-mask-unchecked .ensures) ∙ not-false (m .lane-mask-unchecked .result) (flat .before .before .if1 .left)) smooth rough
 
 returns-4 : tie.Need-returns-4
 returns-4 c =
@@ -58,10 +58,10 @@ returns-4 c =
     let smooth2 : not (flatMask2 (scaled (a .depth) 1) (samplesOf (a .a))) ≡ false =
     rw (flat2 .flat-mask2 .ensures, flat2 .before .scaled3 .ensures .0) at (at-if3 .if3 .left) in
     c .wide-filter-fourteen .ensures
-    ∙ filters-fourteen (a .depth) 2 (a .limit) (a .blimit) (a .thresh) (samplesOf (a .a)) (sym (m .lane-mask .ensures) ∙ not-false (m .lane-mask .result) (flat .before .before .if1 .left)) smooth smooth2
+    ∙ filters-fourteen (a .depth) 2 (a .limit) (a .blimit) (a .thresh) (samplesOf (a .a)) (sym (m .lane-mask-unchecked .ensures) ∙ not-false (m .lane-mask-unchecked .result) (flat .before .before .if1 .left)) smooth smooth2
 
-pub lane-fourteen-spec : {M : Type 1} → statement M
-lane-fourteen-spec =
+pub lane-fourteen-unchecked-spec : {M : Type 1} → statement M
+lane-fourteen-unchecked-spec =
     tie.close
     (tie.spec
     (λ c κs. c .pre)
