@@ -3,7 +3,7 @@
 use mathlib.Core.Path.{_≡_, refl, sym, _∙_, subst}
 use mathlib.Core.Bool.{Bool, true, false, _&&_, _||_}
 use Prim.Native.Nat.{ℕ, _+_, _-_, _*_, _≤_, _<_}
-use native.Mathlib.Nat.{suc-mul, mul-le-mul-right, mul-le-mul-left}
+use native.Mathlib.Nat.{suc-mul, mul-le-mul-right}
 use native.Mathlib.Decide.{decLt}
 use native.Mathlib.Omega.{arith}
 use lib.Dec.{T, eqb, leb, ltb}
@@ -106,11 +106,6 @@ pub place-lent : (g : WindowShape) (n x y : ℕ) → Lent g n → Inside g x y �
 place-lent g n x y s i =
     let h : y - g .top ≤ g .height - 1 = omega arith in
     omega (arith, mul-le-mul-right (g .stride) h)
-
-pub row-small : (g : WindowShape) (n y : ℕ) → Lent g n → y < 65536 → (y - g .top) * g .stride ≤ 65536 * 131072
-row-small g n y s l =
-    let h : y - g .top ≤ 65536 = omega arith in
-    omega (arith, mul-le-mul-right (g .stride) h, mul-le-mul-left 65536 (s .far))
 
 -- a place has one row and one column
 pub row-unique : (a b s x z : ℕ) → x < s → z < s → a * s + x ≡ b * s + z → a ≡ b
