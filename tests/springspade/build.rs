@@ -1,16 +1,22 @@
 use std::{env, path::Path};
 
+// An archive of the C border for each operation, as `tests/archives` writes them.
+const ARCHIVES: [&str; 7] =
+    ["c_levels", "c_strength", "c_line", "c_edges", "c_row", "c_pass", "c_sheet"];
+
 fn main() {
     println!("cargo::rerun-if-env-changed=SPRINGSPADE_LIB");
     let manifest = env::var("CARGO_MANIFEST_DIR").unwrap();
     let folder = env::var("SPRINGSPADE_LIB")
         .unwrap_or_else(|_| format!("{manifest}/../../target/staticlib"));
-    let library = format!("{folder}/libexports.a");
-    println!("cargo::rerun-if-changed={library}");
-    if !Path::new(&library).is_file() {
-        println!("cargo::error=no {library}: run `rt staticlib exports`, or set SPRINGSPADE_LIB");
-        return;
-    }
     println!("cargo::rustc-link-search=native={folder}");
-    println!("cargo::rustc-link-lib=static=exports");
+    for archive in ARCHIVES {
+        let file = format!("{folder}/lib{archive}.a");
+        println!("cargo::rerun-if-changed={file}");
+        if !Path::new(&file).is_file() {
+            println!("cargo::error=no {file}: run `tests/archives`, or set SPRINGSPADE_LIB");
+            return;
+        }
+        println!("cargo::rustc-link-lib=static={archive}");
+    }
 }

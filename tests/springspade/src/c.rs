@@ -1,4 +1,4 @@
-//! The C functions of libexports.a.
+//! The C functions of the archives of the C border.
 
 use crate::{Cell, Returned};
 

@@ -1,4 +1,4 @@
-//! Safe Rust over the C functions of libexports.a.
+//! Safe Rust over the C functions of the border.
 
 mod c;
 mod cell;
