@@ -2,14 +2,17 @@
 ghost use mathlib.Core.Path.{_≡_};
 ghost use Prim.Native.Nat.{_≤_};
 ghost use Rattle.base.specs.Outcome.{Answers};
-ghost use Rattle.pass.specs.Pass.{superblockLoopFilterCells, returnedOf};
+ghost use Rattle.pass.specs.Pass.{superblockLoopFilterCells};
+ghost use Rattle.faults.specs.Faults.{returnedOf};
 ghost use Rattle.c_border.specs.Border.{numbersOf};
+
 pub mod unchecked;
+
 use c_border::Refusal;
 use c_border::numbers;
-use pass::PassAnswer;
-use pass::number_of;
-use pass::place_of;
+use faults::PassAnswer;
+use faults::number_of;
+use faults::place_of;
 use window::WindowShape;
 
 fn refusal_of(answer: PassAnswer) -> Refusal

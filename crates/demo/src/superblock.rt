@@ -5,7 +5,7 @@ use crate::case_s::made_row;
 use crate::output::print_place;
 use crate::step::print_sample;
 use libc::STDOUT_FILENO;
-use pass::PassAnswer;
+use faults::PassAnswer;
 use pass::superblock_loop_filter_cells;
 use row::RowAnswer;
 use window::WindowShape;

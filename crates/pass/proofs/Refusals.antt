@@ -7,11 +7,11 @@ use Prim.Native.Nat.{ℕ}
 use types.Run.{OneOf, miss}
 use denote.Enum.Declared.{tagOf}
 use Rattle.base.specs.Outcome.{Outcome, refused, Returned, Answers}
-use Rattle.pass.specs.Pass.{returnedOf}
-use Rattle.pass.specs.PassLaws.{afterwards, done-or-refused}
-use Rattle.pass.specs.declared.PassAnswer.{PassAnswer}
-use Rattle.pass.specs.declared.PassAnswer.the-variants.{Done}
-use Rattle.pass.proofs.PassAnswer.{the-type}
+use Rattle.faults.specs.Faults.{returnedOf}
+use Rattle.faults.specs.FaultsLaws.{afterwards, done-or-refused}
+use Rattle.faults.specs.declared.PassAnswer.{PassAnswer}
+use Rattle.faults.specs.declared.PassAnswer.the-variants.{Done}
+use Rattle.faults.proofs.PassAnswer.{the-type}
 
 abbrev refusals : List ℕ
 refusals = 1 ∷ 2 ∷ 3 ∷ 4 ∷ 5 ∷ 6 ∷ 7 ∷ 8 ∷ 9 ∷ 10 ∷ 11 ∷ 12 ∷ []

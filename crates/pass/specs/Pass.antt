@@ -1,30 +1,20 @@
 -- One pass over one superblock of a plane: 8.8.2 with packed cells for mode info, and document 01's rules at the window's border.
 -- Assumes nothing.
-use mathlib.Core.Bool.{Bool, not, _&&_, _||_}
 use mathlib.Core.List.{List}
-use Prim.Native.Nat.{ℕ, _*_, _^_}
-use lib.Dec.{eqb, ltb}
-use lib.ListN.{length, getD}
-use Rattle.base.specs.Depth.{supported}
-use Rattle.base.specs.First.{refuseFirst}
-use Rattle.base.specs.Outcome.{Outcome, accepted, refuse, Returned}
-use Rattle.cells.specs.Cell.{badCell}
-use Rattle.edges.specs.Decision.{decision, levelless}
-use Rattle.positions.specs.Positions.{passOf, edgeCount, edgeLen, planeX, planeY}
+use Prim.Native.Nat.{ℕ}
+use lib.ListN.{length}
+use Rattle.base.specs.Outcome.{Outcome, accepted}
+use Rattle.faults.specs.Faults.{numbersRefused, listsRefused}
+use Rattle.positions.specs.Positions.{passOf, planeX, planeY}
 use Rattle.edges.specs.declared.decision.Decision.{Decision}
-use Rattle.geometry.specs.Frame.{badSubsampling, badFrameSize, badStart, cellsFrom}
 use Rattle.geometry.specs.declared.Pass.{Pass}
-use Rattle.geometry.specs.declared.Superblock.{Superblock}
 use Rattle.line.specs.SampleFiltering.{sampleFiltering}
-use Rattle.order.specs.Grid.{select, grid}
 use Rattle.order.specs.Order.{run}
 use Rattle.strength.specs.Strength.{strengthOf}
 use Rattle.window.specs.Stencil.{applied}
-use Rattle.window.specs.Window.{badWindow, badSample, stencil}
+use Rattle.window.specs.Window.{stencil}
 use Rattle.window.specs.declared.WindowShape.{WindowShape}
 use Rattle.decided.specs.Decided.{Position, Setting, decisionAt, decided, filters, settingOf}
-use Rattle.pass.specs.declared.PassAnswer.{PassAnswer}
-use Rattle.pass.specs.declared.PassAnswer.the-variants.{Done, Sharpness, Depth, Subsampling, FrameSize, Row, Short, Plane, Column, Cell, Window, Sample, Level}
 
 -- the sample filtering process with the size and the strength of a decision
 unfoldable pub lineOf : Setting → Decision → List ℕ → List ℕ
@@ -43,29 +33,6 @@ step g t pass p samples =
 unfoldable pub superblockLoopFilter : WindowShape → Setting → Pass → List ℕ → List ℕ
 superblockLoopFilter g t pass samples = run (step g t pass) (decided t pass) samples
 
--- refusals 1 to 10, which numbers decide, and what follows them
-abbrev pub numbersRefused : {A : Type 0} → (sharpness depth subX subY miCols miRows row col plane pass cellsLent : ℕ) → Outcome A → Outcome A
-numbersRefused sharpness depth subX subY miCols miRows row col plane pass cellsLent after =
-    refuse (ltb 7 sharpness) 1 0
-    (refuse (not (supported depth)) 2 0
-    (refuse (badSubsampling subX subY) 3 0
-    (refuse (badFrameSize miCols miRows) 4 0
-    (refuse (badStart row miRows) 5 0
-    (refuse (ltb cellsLent (cellsFrom row miCols miRows)) 7 0
-    (refuse (ltb 2 plane || ltb 1 pass) 9 0
-    (refuse (badStart col miCols) 10 0
-    after)))))))
-
--- refusals 11 to 14, which lists decide, and what follows them
-abbrev pub listsRefused : {A : Type 0} → WindowShape → Setting → Pass → (samples : List ℕ) → Outcome A → Outcome A
-listsRefused g t pass samples after =
-    let s = t .superblock in
-    refuseFirst (badCell (t .cells)) (cellsFrom (s .row) (s .cols) (s .rows)) 11
-    (refuse (badWindow g (length samples)) 12 0
-    (refuseFirst (badSample g (2 ^ t .depth) samples) (g .height * g .width) 13
-    (refuseFirst (levelless s pass (t .chroma) (t .cells)) (64 * edgeCount s pass) 14
-    after)))
-
 -- the operation with document 01's refusals
 unfoldable pub superblockLoopFilterCells : WindowShape → (sharpness depth subX subY miCols miRows row col plane pass : ℕ) (cells samples : List ℕ) → Outcome (List ℕ)
 superblockLoopFilterCells g sharpness depth subX subY miCols miRows row col plane pass cells samples =
@@ -73,19 +40,3 @@ superblockLoopFilterCells g sharpness depth subX subY miCols miRows row col plan
     numbersRefused sharpness depth subX subY miCols miRows row col plane pass (length cells)
     (listsRefused g t (passOf pass) samples
     (accepted (superblockLoopFilter g t (passOf pass) samples)))
-
--- document 01's number and place for each answer
-abbrev pub returnedOf : PassAnswer → Returned
-returnedOf Done = record { number = 0; place = 0 }
-returnedOf Sharpness = record { number = 1; place = 0 }
-returnedOf Depth = record { number = 2; place = 0 }
-returnedOf Subsampling = record { number = 3; place = 0 }
-returnedOf FrameSize = record { number = 4; place = 0 }
-returnedOf Row = record { number = 5; place = 0 }
-returnedOf Short = record { number = 7; place = 0 }
-returnedOf Plane = record { number = 9; place = 0 }
-returnedOf Column = record { number = 10; place = 0 }
-returnedOf (Cell k) = record { number = 11; place = k }
-returnedOf Window = record { number = 12; place = 0 }
-returnedOf (Sample k) = record { number = 13; place = k }
-returnedOf (Level k) = record { number = 14; place = k }

@@ -8,17 +8,18 @@ ghost use Rattle.base.specs.Outcome.{accepted, Answers};
 ghost use Rattle.positions.specs.Positions.{Placed};
 ghost use Rattle.geometry.specs.Frame.{cellsFrom};
 ghost use Rattle.decided.specs.Decided.{setting};
-ghost use Rattle.pass.specs.Pass.{superblockLoopFilter, listsRefused, superblockLoopFilterCells, returnedOf};
+ghost use Rattle.faults.specs.Faults.{listsRefused, returnedOf};
+ghost use Rattle.pass.specs.Pass.{superblockLoopFilter, superblockLoopFilterCells};
 ghost use Rattle.pass.specs.WorkLaws.{Ready};
 
 mod edge;
-pub mod faults;
 
 use decided::no_run;
 use decided::superblock_of;
 use edge::filter_edge;
 use edge::filter_pending;
-use faults::list_faults;
+use faults::PassAnswer;
+use faults::list_faults_unchecked;
 use faults::number_faults;
 use geometry::Pass;
 use geometry::Superblock;
@@ -26,65 +27,6 @@ use positions::edge_count;
 use positions::pass_of;
 use strength::limits_table;
 use window::WindowShape;
-
-// What became of a pass: it was run, or refused.
-pub enum PassAnswer {
-    Done,
-    Sharpness,
-    Depth,
-    Subsampling,
-    FrameSize,
-    Row,
-    Short,
-    Plane,
-    Column,
-    Cell(usize),
-    Window,
-    Sample(usize),
-    Level(usize),
-}
-
-// Document 01's number and place of an answer, 0 and 0 where the pass was run.
-
-pub fn number_of(answer: PassAnswer) -> u32
-    ensures { λ r. ⌜ r ≡ returnedOf answer .number ⌝ }
-{
-    match answer {
-        PassAnswer::Done => 0,
-        PassAnswer::Sharpness => 1,
-        PassAnswer::Depth => 2,
-        PassAnswer::Subsampling => 3,
-        PassAnswer::FrameSize => 4,
-        PassAnswer::Row => 5,
-        PassAnswer::Short => 7,
-        PassAnswer::Plane => 9,
-        PassAnswer::Column => 10,
-        PassAnswer::Cell(_) => 11,
-        PassAnswer::Window => 12,
-        PassAnswer::Sample(_) => 13,
-        PassAnswer::Level(_) => 14,
-    }
-}
-
-pub fn place_of(answer: PassAnswer) -> usize
-    ensures { λ r. ⌜ r ≡ returnedOf answer .place ⌝ }
-{
-    match answer {
-        PassAnswer::Done => 0,
-        PassAnswer::Sharpness => 0,
-        PassAnswer::Depth => 0,
-        PassAnswer::Subsampling => 0,
-        PassAnswer::FrameSize => 0,
-        PassAnswer::Row => 0,
-        PassAnswer::Short => 0,
-        PassAnswer::Plane => 0,
-        PassAnswer::Column => 0,
-        PassAnswer::Cell(k) => k,
-        PassAnswer::Window => 0,
-        PassAnswer::Sample(k) => k,
-        PassAnswer::Level(k) => k,
-    }
-}
 
 // The work without the tests, for a caller that has made them. The superblock has the subsampling that holds in the plane.
 pub fn superblock_loop_filter_unchecked(
@@ -135,7 +77,7 @@ fn test_lists_and_filter(
     requires { ⌜ Placed s × (cellsFrom (s .row) (s .cols) (s .rows) ≤ length (now cells)) × (sharpness ≤ 7) × (supported depth ≡ true) ⌝ }
     ensures { λ r. ⌜ Answers (listsRefused g (setting s chroma sharpness depth (now (cells .entry))) pass (now (samples .entry)) (accepted (superblockLoopFilter g (setting s chroma sharpness depth (now (cells .entry))) pass (now (samples .entry))))) (returnedOf r) (now (samples .entry)) (now (samples .exit)) ⌝ }
 {
-    let faults = list_faults(samples, g, cells, s, pass, chroma, sharpness, depth);
+    let faults = list_faults_unchecked(samples, g, cells, s, pass, chroma, sharpness, depth);
     if let PassAnswer::Done = faults {
         superblock_loop_filter_unchecked(samples, g, cells, s, pass, chroma, sharpness, depth);
         return PassAnswer::Done;

@@ -13,7 +13,7 @@ use Rattle.decided.specs.Runs.{runs}
 use Rattle.decided.specs.declared.EdgeRun.{EdgeRun}
 use Rattle.edges.specs.Decision.{levelless}
 use Rattle.geometry.specs.Frame.{cellsFrom}
-use Rattle.pass.specs.Pass.{numbersRefused}
+use Rattle.faults.specs.Faults.{numbersRefused}
 use Rattle.positions.specs.Positions.{passOf, edgeCount}
 use Rattle.text.specs.Text.{decimal}
 use Rattle.sheet.specs.declared.header.SheetHeader.{SheetHeader}

@@ -18,7 +18,7 @@ use Rattle.decided.specs.RunsLaws.{Small, runs-small, runs-count}
 use Rattle.decided.specs.declared.EdgeRun.{EdgeRun}
 use Rattle.edges.specs.Decision.{levelless}
 use Rattle.geometry.specs.Frame.{badSubsampling, badFrameSize, badStart, rowsFrom, cellsFrom}
-use Rattle.pass.specs.Pass.{numbersRefused}
+use Rattle.faults.specs.Faults.{numbersRefused}
 use Rattle.positions.specs.Positions.{passOf, edgeCount}
 use Rattle.positions.specs.PositionsLaws.{edge-count-small}
 use Rattle.text.specs.Text.{decimal}

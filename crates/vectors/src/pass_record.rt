@@ -6,7 +6,7 @@ use crate::numbers::wide;
 use crate::numbers::wide16_at;
 use crate::numbers::wide32_at;
 use crate::replay::Record;
-use pass::PassAnswer;
+use faults::PassAnswer;
 use pass::superblock_loop_filter_cells;
 use window::WindowShape;
 

@@ -2,7 +2,7 @@ use borrow.Author.Needs.{needs}
 use mathlib.Core.List.{[]}
 use Rattle.base.specs.Outcome.{accepted}
 use Rattle.pass.specs.Pass.{superblockLoopFilterCells}
-use Rattle.pass.specs.PassLaws.{numbers-passed}
+use Rattle.faults.specs.FaultsLaws.{numbers-passed}
 use Rattle.pass.proofs.Refusals.{refused-answer, passed-on, answers-on}
 use Rattle.pass.proofs.superblock_loop_filter_cells.Statement.{statement}
 use Rattle.pass.proofs.superblock_loop_filter_cells.Tie as tie

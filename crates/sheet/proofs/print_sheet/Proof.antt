@@ -7,13 +7,13 @@ use Prim.Native.Nat.{ℕ}
 use native.Mathlib.Omega.{arith}
 use Rattle.base.specs.Outcome.{Outcome, accepted, refused}
 use Rattle.decided.specs.declared.EdgeRun.{EdgeRun}
-use Rattle.pass.proofs.PassAnswer.{the-type}
+use Rattle.faults.proofs.PassAnswer.{the-type}
 use types.Run.{OneOf, miss}
 use denote.Enum.Declared.{tagOf}
-use Rattle.pass.specs.Pass.{returnedOf}
-use Rattle.pass.specs.declared.PassAnswer.{PassAnswer}
-use Rattle.pass.specs.declared.PassAnswer.the-variants.{Done}
-use Rattle.pass.specs.PassLaws.{afterwards, done-or-refused, numbers-passed, numbers-any}
+use Rattle.faults.specs.Faults.{returnedOf}
+use Rattle.faults.specs.declared.PassAnswer.{PassAnswer}
+use Rattle.faults.specs.declared.PassAnswer.the-variants.{Done}
+use Rattle.faults.specs.FaultsLaws.{afterwards, done-or-refused, numbers-passed, numbers-any}
 use Rattle.sheet.specs.Sheet.{headerOf, badHeader, cellsOf, cellsRuns, sheetRuns}
 use Rattle.sheet.specs.SheetFits.{Tame, sheet-tame, header-narrow}
 use Rattle.sheet.specs.SheetLaws.{sheet-short, sheet-spare, sheet-rest, sheet-text}

@@ -9,9 +9,8 @@ ghost use Rattle.base.specs.Outcome.{Outcome};
 ghost use Rattle.positions.specs.Positions.{Placed};
 ghost use Rattle.geometry.specs.Frame.{cellsFrom};
 ghost use Rattle.decided.specs.Decided.{setting};
-ghost use Rattle.pass.specs.Pass.{numbersRefused, listsRefused};
-ghost use Rattle.pass.specs.PassLaws.{afterwards};
-use crate::PassAnswer;
+ghost use Rattle.faults.specs.Faults.{numbersRefused, listsRefused, returnedOf};
+ghost use Rattle.faults.specs.FaultsLaws.{afterwards};
 use base::is_supported;
 use cells::any_bad_word_unchecked;
 use cells::first_bad_word_unchecked;
@@ -27,6 +26,65 @@ use window::WindowShape;
 use window::any_bad_sample_unchecked;
 use window::bad_window;
 use window::first_bad_sample_unchecked;
+
+// What became of a pass: it was run, or refused.
+pub enum PassAnswer {
+    Done,
+    Sharpness,
+    Depth,
+    Subsampling,
+    FrameSize,
+    Row,
+    Short,
+    Plane,
+    Column,
+    Cell(usize),
+    Window,
+    Sample(usize),
+    Level(usize),
+}
+
+// Document 01's number and place of an answer, 0 and 0 where the pass was run.
+
+pub fn number_of(answer: PassAnswer) -> u32
+    ensures { λ r. ⌜ r ≡ returnedOf answer .number ⌝ }
+{
+    match answer {
+        PassAnswer::Done => 0,
+        PassAnswer::Sharpness => 1,
+        PassAnswer::Depth => 2,
+        PassAnswer::Subsampling => 3,
+        PassAnswer::FrameSize => 4,
+        PassAnswer::Row => 5,
+        PassAnswer::Short => 7,
+        PassAnswer::Plane => 9,
+        PassAnswer::Column => 10,
+        PassAnswer::Cell(_) => 11,
+        PassAnswer::Window => 12,
+        PassAnswer::Sample(_) => 13,
+        PassAnswer::Level(_) => 14,
+    }
+}
+
+pub fn place_of(answer: PassAnswer) -> usize
+    ensures { λ r. ⌜ r ≡ returnedOf answer .place ⌝ }
+{
+    match answer {
+        PassAnswer::Done => 0,
+        PassAnswer::Sharpness => 0,
+        PassAnswer::Depth => 0,
+        PassAnswer::Subsampling => 0,
+        PassAnswer::FrameSize => 0,
+        PassAnswer::Row => 0,
+        PassAnswer::Short => 0,
+        PassAnswer::Plane => 0,
+        PassAnswer::Column => 0,
+        PassAnswer::Cell(k) => k,
+        PassAnswer::Window => 0,
+        PassAnswer::Sample(k) => k,
+        PassAnswer::Level(k) => k,
+    }
+}
 
 // 2 to the depth.
 fn sample_bound(depth: u8) -> u16
@@ -80,7 +138,7 @@ pub fn number_faults(
 }
 
 // Refusals 11 to 14, once the numbers are tested.
-pub(crate) fn list_faults(
+pub fn list_faults_unchecked(
     samples: &[u16],
     g: WindowShape,
     cells: &[u32],

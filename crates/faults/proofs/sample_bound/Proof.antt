@@ -1,7 +1,7 @@
 use native.Mathlib.Omega.{arith}
 use Rattle.base.specs.Depth.{depth-scaled}
-use Rattle.pass.proofs.faults.sample_bound.Statement.{statement}
-use Rattle.pass.proofs.faults.sample_bound.Tie as tie
+use Rattle.faults.proofs.sample_bound.Statement.{statement}
+use Rattle.faults.proofs.sample_bound.Tie as tie
 
 shl-result : tie.Need-shl-result
 shl-result c = let s = depth-scaled (c .args .depth) (c .pre) in omega arith

@@ -10,8 +10,8 @@ use Rattle.geometry.specs.Frame.{cellsFrom}
 use Rattle.window.specs.Window.{badWindow, badSample}
 use Rattle.window.specs.WindowLaws.{Lent, lent}
 use Rattle.cells.specs.Cell.{badCell}
-use Rattle.pass.proofs.faults.list_faults.Statement.{statement}
-use Rattle.pass.proofs.faults.list_faults.Tie as tie
+use Rattle.faults.proofs.list_faults_unchecked.Statement.{statement}
+use Rattle.faults.proofs.list_faults_unchecked.Tie as tie
 
 abbrev count : tie.Start → ℕ
 count s = cellsFrom (s .args .s .row) (s .args .s .cols) (s .args .s .rows)
@@ -88,8 +88,8 @@ returns-5 c =
     let all = rw (c .before .edge-count .ensures .0, place) at (c .if4 .left) in
     λ after. rw (good-cells three, good-window three, good-samples three, first-past (levelless (s .args .s) (s .args .pass) (s .args .chroma) (s .args .cells .now)) _ all)
 
-pub list-faults-spec : {M : Type 1} → statement M
-list-faults-spec =
+pub list-faults-unchecked-spec : {M : Type 1} → statement M
+list-faults-unchecked-spec =
     tie.close
     (tie.spec
     (search needs)

@@ -7,8 +7,8 @@ use lib.Dec.{ltb}
 use Rattle.base.specs.Depth.{supported}
 use Rattle.geometry.specs.Frame.{badSubsampling, badFrameSize, badStart, cellsFrom}
 use Rattle.geometry.specs.FrameLaws.{sized, started}
-use Rattle.pass.proofs.faults.number_faults.Statement.{statement}
-use Rattle.pass.proofs.faults.number_faults.Tie as tie
+use Rattle.faults.proofs.number_faults.Statement.{statement}
+use Rattle.faults.proofs.number_faults.Tie as tie
 
 -- where a test was passed, the start of the call, and what is known past the test
 abbrev at1 : tie.Else1 → tie.Start
