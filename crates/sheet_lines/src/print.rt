@@ -4,8 +4,8 @@ ghost use Prim.Native.Nat.{_+_, _≤_, _<_};
 ghost use lib.ListN.{length};
 ghost use Rattle.decided.specs.RunsLaws.{Small};
 ghost use Rattle.text.specs.Text.{Put};
-ghost use Rattle.sheet.specs.HeaderLaws.{Header};
-ghost use Rattle.sheet.specs.Sheet.{endedBy, named, firstLine, runLine, refusalLine};
+ghost use Rattle.sheet_lines.specs.HeaderLaws.{Header};
+ghost use Rattle.sheet_lines.specs.SheetLines.{endedBy, named, firstLine, runLine, refusalLine};
 use crate::header::SheetHeader;
 use decided::EdgeRun;
 use text::put_byte_unchecked;
@@ -31,7 +31,7 @@ fn put_named(out: &mut [u8], at: usize, word: &[u8], n: usize) -> usize
 }
 
 // pass, plane, row base, column.
-pub(crate) fn print_first(out: &mut [u8], h: SheetHeader) -> usize
+pub fn print_first_unchecked(out: &mut [u8], h: SheetHeader) -> usize
     requires { ⌜ Header h ⌝ }
     ensures { λ r. ⌜ Put 0 (firstLine h) (now (out .entry)) (now (out .exit)) r × (r ≤ 49) ⌝ }
 {
@@ -43,7 +43,7 @@ pub(crate) fn print_first(out: &mut [u8], h: SheetHeader) -> usize
 }
 
 // edge, first position, positions, size, level.
-pub(crate) fn print_run(out: &mut [u8], at: usize, a: EdgeRun) -> usize
+pub fn print_run_unchecked(out: &mut [u8], at: usize, a: EdgeRun) -> usize
     requires { ⌜ (at ≤ 32768) × Small a ⌝ }
     ensures { λ r. ⌜ Put at (runLine a) (now (out .entry)) (now (out .exit)) r × (r ≤ at + 15) ⌝ }
 {
@@ -54,7 +54,7 @@ pub(crate) fn print_run(out: &mut [u8], at: usize, a: EdgeRun) -> usize
     put_number(out, size, a.level as usize, b'\n')
 }
 
-pub(crate) fn print_refusal(out: &mut [u8], number: usize, place: usize) -> usize
+pub fn print_refusal_unchecked(out: &mut [u8], number: usize, place: usize) -> usize
     requires { ⌜ (number < 100) × (place < 10000) ⌝ }
     ensures { λ r. ⌜ Put 0 (refusalLine number place) (now (out .entry)) (now (out .exit)) r ⌝ }
 {

@@ -2,7 +2,7 @@
 ghost use mathlib.Core.Path.{_≡_};
 ghost use Prim.Native.Nat.{_≤_, _<_};
 ghost use lib.ListN.{length};
-ghost use Rattle.sheet.specs.Sheet.{depthOf, headerOf, badHeader};
+ghost use Rattle.sheet_lines.specs.SheetLines.{depthOf, headerOf, badHeader};
 use cells::bytes::word_at_unchecked;
 
 // MiCols and MiRows, subsampling, sharpness, depth (0 where the code is none), plane, pass, row base and column in cells, and
@@ -28,7 +28,7 @@ fn depth_of(code: u8) -> u8
     if code < 3 { 8 + 2 * code } else { 0 }
 }
 
-pub(crate) fn header_of(sheet: &[u8]) -> SheetHeader
+pub fn header_of_unchecked(sheet: &[u8]) -> SheetHeader
     requires { ⌜ 8 ≤ length (now sheet) ⌝ }
     ensures { λ r. ⌜ r ≡ headerOf (now (sheet .entry)) ⌝ }
 {
@@ -48,7 +48,7 @@ pub(crate) fn header_of(sheet: &[u8]) -> SheetHeader
     }
 }
 
-pub(crate) fn bad_header(h: SheetHeader) -> bool
+pub fn bad_header(h: SheetHeader) -> bool
     ensures { λ r. ⌜ r ≡ badHeader h ⌝ }
 {
     (h.spare != 0) | (1024 < h.cols)

@@ -1,9 +1,9 @@
 use borrow.Author.Needs.{needs}
 use native.Mathlib.Omega.{arith}
-use Rattle.sheet.specs.Sheet.{firstLine}
+use Rattle.sheet_lines.specs.SheetLines.{firstLine}
 use Rattle.text.specs.TextLaws.{put-then}
-use Rattle.sheet.proofs.print.print_first.Statement.{statement}
-use Rattle.sheet.proofs.print.print_first.Tie as tie
+use Rattle.sheet_lines.proofs.print.print_first_unchecked.Statement.{statement}
+use Rattle.sheet_lines.proofs.print.print_first_unchecked.Tie as tie
 
 returns : tie.Need-returns
 unfolding firstLine
@@ -17,8 +17,8 @@ returns c =
       omega (arith, pass .1, plane .1, row .1, col .1, end .1),
     )
 
-pub print-first-spec : {M : Type 1} → statement M
-print-first-spec =
+pub print-first-unchecked-spec : {M : Type 1} → statement M
+print-first-unchecked-spec =
     tie.close
     (tie.spec
     (search needs)

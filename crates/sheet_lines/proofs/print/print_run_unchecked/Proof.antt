@@ -1,9 +1,9 @@
 use borrow.Author.Needs.{needs}
 use native.Mathlib.Omega.{arith}
-use Rattle.sheet.specs.Sheet.{runLine}
+use Rattle.sheet_lines.specs.SheetLines.{runLine}
 use Rattle.text.specs.TextLaws.{put-then}
-use Rattle.sheet.proofs.print.print_run.Statement.{statement}
-use Rattle.sheet.proofs.print.print_run.Tie as tie
+use Rattle.sheet_lines.proofs.print.print_run_unchecked.Statement.{statement}
+use Rattle.sheet_lines.proofs.print.print_run_unchecked.Tie as tie
 
 returns : tie.Need-returns
 unfolding runLine
@@ -17,8 +17,8 @@ returns c =
       omega (arith, edge .1, first .1, count .1, size .1, level .1),
     )
 
-pub print-run-spec : {M : Type 1} → statement M
-print-run-spec =
+pub print-run-unchecked-spec : {M : Type 1} → statement M
+print-run-unchecked-spec =
     tie.close
     (tie.spec
     (search needs)
