@@ -18,7 +18,7 @@ use Rattle.order.specs.Grid.{keep-if, select, select-append, strip, grid, strip
 use Rattle.positions.specs.Positions.{edgeCount}
 use Rattle.text.specs.Text.{Put}
 use Rattle.text.specs.TextLaws.{written-none, written-length, put-then}
-use Rattle.sheet.specs.Sheet.{runLine, runLines}
+use Rattle.sheet_lines.specs.SheetLines.{runLine, runLines}
 use Rattle.sheet.specs.declared.runs.Printed.{Printed}
 
 -- a run that does not filter is not printed

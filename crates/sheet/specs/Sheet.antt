@@ -1,13 +1,12 @@
 -- Document 01's run sheet: what it holds, its refusals, and the text that is printed for it.
 -- Assumes nothing.
-use mathlib.Core.Bool.{Bool, cond, not, _||_}
-use mathlib.Core.List.{List, [], _∷_, _++_}
-use Prim.Native.Nat.{ℕ, _+_, _-_, _*_, _/_, _%_, _^_}
-use lib.Dec.{eqb, ltb}
+use mathlib.Core.List.{List, _++_}
+use Prim.Native.Nat.{ℕ, _-_, _*_, _/_}
+use lib.Dec.{ltb}
 use lib.ListN.{length}
 use Rattle.base.specs.First.{refuseFirst}
 use Rattle.base.specs.Outcome.{Outcome, accepted, refused, refuse}
-use Rattle.cells.specs.Cell.{badCell, bytesAt, wordsAt}
+use Rattle.cells.specs.Cell.{badCell, wordsAt}
 use Rattle.decided.specs.Decided.{Setting, settingOf}
 use Rattle.decided.specs.Runs.{runs}
 use Rattle.decided.specs.declared.EdgeRun.{EdgeRun}
@@ -15,37 +14,10 @@ use Rattle.edges.specs.Decision.{levelless}
 use Rattle.geometry.specs.Frame.{cellsFrom}
 use Rattle.faults.specs.Faults.{numbersRefused}
 use Rattle.positions.specs.Positions.{passOf, edgeCount}
-use Rattle.text.specs.Text.{decimal}
-use Rattle.sheet.specs.declared.header.SheetHeader.{SheetHeader}
+use Rattle.sheet_lines.specs.SheetLines.{headerOf, badHeader, firstLine, runLines, refusalLine}
+use Rattle.sheet_lines.specs.declared.header.SheetHeader.{SheetHeader}
 
 -- ---- the sheet
-
--- depth codes 0, 1, 2 are depths 8, 10, 12; code 3 is none
-abbrev pub depthOf : (code : ℕ) → ℕ
-depthOf code = cond (ltb code 3) (8 + 2 * code) 0
-
--- 64 bits, from the most significant on: mi_cols 14, mi_rows 14, x and y subsampling 1 each, sharpness 3, depth code 2, plane 2, pass 1,
--- row base over 8 in 10, column over 8 in 10, spare 6
-unfoldable pub headerOf : (bytes : List ℕ) → SheetHeader
-headerOf bytes =
-    let bits = bytesAt bytes 0 8 in
-    record {
-      cols = bits / 2 ^ 50 % 2 ^ 14;
-      rows = bits / 2 ^ 36 % 2 ^ 14;
-      subx = bits / 2 ^ 35 % 2;
-      suby = bits / 2 ^ 34 % 2;
-      sharpness = bits / 2 ^ 31 % 2 ^ 3;
-      depth = depthOf (bits / 2 ^ 29 % 2 ^ 2);
-      plane = bits / 2 ^ 27 % 2 ^ 2;
-      pass = bits / 2 ^ 26 % 2;
-      row = 8 * (bits / 2 ^ 16 % 2 ^ 10);
-      col = 8 * (bits / 2 ^ 6 % 2 ^ 10);
-      spare = bits % 2 ^ 6;
-    }
-
--- 17: spare bits set, or mi_cols above 1,024
-unfoldable pub badHeader : SheetHeader → Bool
-badHeader h = not (eqb (h .spare) 0) || ltb 1024 (h .cols)
 
 -- what the header and the cells of the superblock row make of a pass
 abbrev pub sheetSetting : SheetHeader → (cells : List ℕ) → Setting
@@ -74,55 +46,7 @@ sheetRuns bytes =
     (numbersRefused (h .sharpness) (h .depth) (h .subx) (h .suby) (h .cols) (h .rows) (h .row) (h .col) (h .plane) (h .pass) ((length bytes - 8) / 4)
     (cellsRuns h (cellsOf bytes))))
 
--- ---- its text, as ASCII codes
-
-abbrev pub space : ℕ
-space = 32
-
-abbrev pub newline : ℕ
-newline = 10
-
--- "pass ", " plane ", " row ", " col "
-abbrev pub passWord : List ℕ
-passWord = 112 ∷ 97 ∷ 115 ∷ 115 ∷ 32 ∷ []
-
-abbrev pub planeWord : List ℕ
-planeWord = 32 ∷ 112 ∷ 108 ∷ 97 ∷ 110 ∷ 101 ∷ 32 ∷ []
-
-abbrev pub rowWord : List ℕ
-rowWord = 32 ∷ 114 ∷ 111 ∷ 119 ∷ 32 ∷ []
-
-abbrev pub colWord : List ℕ
-colWord = 32 ∷ 99 ∷ 111 ∷ 108 ∷ 32 ∷ []
-
--- "refused ", " place "
-abbrev pub refusedWord : List ℕ
-refusedWord = 114 ∷ 101 ∷ 102 ∷ 117 ∷ 115 ∷ 101 ∷ 100 ∷ 32 ∷ []
-
-abbrev pub placeWord : List ℕ
-placeWord = 32 ∷ 112 ∷ 108 ∷ 97 ∷ 99 ∷ 101 ∷ 32 ∷ []
-
--- a number and the code behind it; a word and the number behind it
-abbrev pub endedBy : (n code : ℕ) → List ℕ
-endedBy n code = decimal n ++ code ∷ []
-
-abbrev pub named : (word : List ℕ) (n : ℕ) → List ℕ
-named word n = word ++ decimal n
-
--- pass, plane, row base, column in 8-sample units
-unfoldable pub firstLine : SheetHeader → List ℕ
-firstLine h = named passWord (h .pass) ++ named planeWord (h .plane) ++ named rowWord (h .row) ++ named colWord (h .col) ++ newline ∷ []
-
--- edge, first i, positions, size, level
-unfoldable pub runLine : EdgeRun → List ℕ
-runLine a = endedBy (a .edge) space ++ endedBy (a .first) space ++ endedBy (a .count) space ++ endedBy (a .size) space ++ endedBy (a .level) newline
-
-unfoldable pub runLines : List EdgeRun → List ℕ
-runLines [] = []
-runLines (a ∷ l) = runLine a ++ runLines l
-
-unfoldable pub refusalLine : (number place : ℕ) → List ℕ
-refusalLine number place = named refusedWord number ++ named placeWord place ++ newline ∷ []
+-- ---- its text
 
 abbrev pub printed : SheetHeader → Outcome (List EdgeRun) → List ℕ
 printed h (accepted l) = firstLine h ++ runLines l

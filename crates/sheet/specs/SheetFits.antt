@@ -2,17 +2,16 @@
 -- Assumes nothing.
 use mathlib.Core.Path.{_≡_, refl}
 use mathlib.Core.Bool.{Bool, true, false, not, _||_}
-use mathlib.Core.List.{List, [], _∷_, List·Memᴰ, List·Memᴰ·head, List·Memᴰ·tail}
+use mathlib.Core.List.{List, List·Memᴰ}
 use Prim.Native.Nat.{ℕ, _-_, _*_, _/_, _≤_, _<_}
 use native.Mathlib.Nat.{mul-le-mul-right}
 use native.Mathlib.Omega.{arith}
-use borrow.Author.Tests.{ltb-true, ltb-false}
-use lib.Dec.{eqb, ltb}
+use borrow.Author.Tests.{ltb-true}
+use lib.Dec.{ltb}
 use lib.ListN.{length, length-append}
 use Rattle.base.specs.Depth.{supported}
 use Rattle.base.specs.First.{found, first-is}
 use Rattle.base.specs.Outcome.{Outcome, accepted, refused, refuse}
-use Rattle.base.specs.Tests.{neither}
 use Rattle.cells.specs.Cell.{badCell}
 use Rattle.decided.specs.RunsLaws.{Small, runs-small, runs-count}
 use Rattle.decided.specs.declared.EdgeRun.{EdgeRun}
@@ -21,62 +20,15 @@ use Rattle.geometry.specs.Frame.{badSubsampling, badFrameSize, badStart, rowsFr
 use Rattle.faults.specs.Faults.{numbersRefused}
 use Rattle.positions.specs.Positions.{passOf, edgeCount}
 use Rattle.positions.specs.PositionsLaws.{edge-count-small}
-use Rattle.text.specs.Text.{decimal}
-use Rattle.text.specs.TextLaws.{decimal-length}
-use Rattle.sheet.specs.HeaderLaws.{Header, header-small}
-use Rattle.sheet.specs.Sheet.{headerOf, badHeader, sheetSetting, cellsRuns, cellsOf, sheetRuns, firstLine, runLine, runLines, refusalLine, printed, runSheet}
+use Rattle.sheet_lines.specs.HeaderLaws.{header-small, header-narrow}
+use Rattle.sheet_lines.specs.LineLaws.{first-length, lines-length, refusal-length}
+use Rattle.sheet_lines.specs.SheetLines.{headerOf, badHeader, firstLine, runLines, refusalLine}
+use Rattle.sheet_lines.specs.declared.header.SheetHeader.{SheetHeader}
+use Rattle.sheet.specs.Sheet.{sheetSetting, cellsRuns, cellsOf, sheetRuns, printed, runSheet}
 use Rattle.sheet.specs.SheetAnswers.{answerOf}
 use Rattle.sheet.specs.declared.SheetAnswer.the-variants.{Written}
-use Rattle.sheet.specs.declared.header.SheetHeader.{SheetHeader}
-
--- ---- lines
-
-one-digit : (n : ℕ) → n < 10 → length (decimal n) ≤ 1
-one-digit n h = decimal-length 0 n h
-
-two-digits : (n : ℕ) → n < 100 → length (decimal n) ≤ 2
-two-digits n h = decimal-length 1 n h
-
-four-digits : (n : ℕ) → n < 10000 → length (decimal n) ≤ 4
-four-digits n h = decimal-length 3 n h
-
-first-length : (h : SheetHeader) → Header h → length (firstLine h) ≤ 33
-unfolding firstLine
-first-length h k =
-    let pass = one-digit (h .pass) (omega arith) in
-    let plane = one-digit (h .plane) (omega arith) in
-    let row = four-digits (h .row) (omega arith) in
-    let col = four-digits (h .col) (omega arith) in
-    simp length-append (omega arith)
-
-run-length : (a : EdgeRun) → Small a → length (runLine a) ≤ 14
-unfolding runLine
-run-length a k =
-    let edge = two-digits (a .edge) (omega arith) in
-    let first = two-digits (a .first) (omega arith) in
-    let count = two-digits (a .count) (omega arith) in
-    let size = one-digit (a .size) (omega arith) in
-    let level = two-digits (a .level) (omega arith) in
-    simp length-append (omega arith)
-
-lines-length : (l : List EdgeRun) → ((a : EdgeRun) → List·Memᴰ a l → Small a) → length (runLines l) ≤ 14 * length l
-unfolding runLines
-lines-length [] h = omega arith
-lines-length (a ∷ l) h =
-    omega (arith, length-append (runLine a) (runLines l), run-length a (h a (List·Memᴰ·head refl)), lines-length l (λ b m. h b (List·Memᴰ·tail m)))
-
-refusal-length : (number place : ℕ) → number < 100 → place < 10000 → length (refusalLine number place) ≤ 22
-unfolding refusalLine
-refusal-length number place h k =
-    let digits = two-digits number h in
-    let more = four-digits place k in
-    simp length-append (omega arith)
 
 -- ---- what test 17 leaves: a row of at most 8,192 cells
-
-pub header-narrow : (h : SheetHeader) → badHeader h ≡ false → h .cols ≤ 1024
-unfolding badHeader
-header-narrow h e = ltb-false 1024 (h .cols) (neither (not (eqb (h .spare) 0)) e .1)
 
 pub cells-few : (row cols rows : ℕ) → cols ≤ 1024 → cellsFrom row cols rows ≤ 8192
 cells-few row cols rows h = let eight : rowsFrom row rows ≤ 8 = omega arith in omega (arith, mul-le-mul-right cols eight)

@@ -6,12 +6,11 @@ ghost use lib.ListN.{length};
 ghost use Rattle.geometry.specs.Frame.{cellsFrom};
 ghost use Rattle.positions.specs.Positions.{Placed};
 ghost use Rattle.text.specs.Text.{Put};
-ghost use Rattle.sheet.specs.HeaderLaws.{Header};
-ghost use Rattle.sheet.specs.Sheet.{sheetSetting, headerOf, cellsOf, cellsRuns, printed, runSheet};
+ghost use Rattle.sheet_lines.specs.HeaderLaws.{Header};
+ghost use Rattle.sheet_lines.specs.SheetLines.{headerOf};
+ghost use Rattle.sheet.specs.Sheet.{sheetSetting, cellsOf, cellsRuns, printed, runSheet};
 ghost use Rattle.sheet.specs.SheetAnswers.{answerOf, textOf};
 
-pub mod header;
-mod print;
 mod runs;
 
 use cells::any_bad_word_unchecked;
@@ -19,19 +18,19 @@ use cells::bytes::words_at_unchecked;
 use cells::first_bad_word_unchecked;
 use decided::superblock_of;
 use edges::decision::first_levelless_unchecked;
-use geometry::cell_count_unchecked;
-use header::SheetHeader;
-use header::bad_header;
-use header::header_of;
 use faults::PassAnswer;
 use faults::number_faults;
 use faults::number_of;
 use faults::place_of;
+use geometry::cell_count_unchecked;
 use positions::edge_count;
 use positions::pass_of;
-use print::print_first;
-use print::print_refusal;
 use runs::print_runs;
+use sheet_lines::header::SheetHeader;
+use sheet_lines::header::bad_header;
+use sheet_lines::header::header_of_unchecked;
+use sheet_lines::print::print_first_unchecked;
+use sheet_lines::print::print_refusal_unchecked;
 
 // How many bytes of text were written, or that the buffer has too little room.
 pub enum SheetAnswer {
@@ -46,16 +45,16 @@ fn print_cells(out: &mut [u8], h: SheetHeader, cells: &[u32]) -> usize
 {
     let count = cell_count_unchecked(h.row, h.cols, h.rows);
     if any_bad_word_unchecked(cells, count) {
-        return print_refusal(out, 11, first_bad_word_unchecked(cells, count));
+        return print_refusal_unchecked(out, 11, first_bad_word_unchecked(cells, count));
     }
     let s = superblock_of(h.subx, h.suby, h.cols, h.rows, h.row, h.col, h.plane);
     let pass = pass_of(h.pass);
     let chroma = 0 < h.plane;
     let place = first_levelless_unchecked(cells, s, pass, chroma);
     if place < 64 * edge_count(s, pass) {
-        return print_refusal(out, 14, place);
+        return print_refusal_unchecked(out, 14, place);
     }
-    let at = print_first(out, h);
+    let at = print_first_unchecked(out, h);
     print_runs(out, at, cells, s, pass, chroma)
 }
 
@@ -74,11 +73,11 @@ fn print_sheet(out: &mut [u8], sheet: &[u8]) -> usize
     ensures { λ r. ⌜ Put 0 (runSheet (now (sheet .entry))) (now (out .entry)) (now (out .exit)) r ⌝ }
 {
     if sheet.len() < 8 {
-        return print_refusal(out, 7, 0);
+        return print_refusal_unchecked(out, 7, 0);
     }
-    let h = header_of(sheet);
+    let h = header_of_unchecked(sheet);
     if bad_header(h) {
-        return print_refusal(out, 17, 0);
+        return print_refusal_unchecked(out, 17, 0);
     }
     let faults = number_faults(
         h.sharpness,
@@ -96,7 +95,7 @@ fn print_sheet(out: &mut [u8], sheet: &[u8]) -> usize
     if let PassAnswer::Done = faults {
         return print_words(out, sheet, h);
     }
-    print_refusal(out, number_of(faults) as usize, place_of(faults))
+    print_refusal_unchecked(out, number_of(faults) as usize, place_of(faults))
 }
 
 // Takes any bytes. The text stands at the front of the buffer; a buffer of fewer than 2,048 bytes is left as it is.

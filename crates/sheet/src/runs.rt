@@ -9,9 +9,8 @@ ghost use Rattle.geometry.specs.Frame.{cellsFrom};
 ghost use Rattle.order.specs.Grid.{strip};
 ghost use Rattle.positions.specs.Positions.{Placed, edgeCount};
 ghost use Rattle.text.specs.Text.{Put};
+ghost use Rattle.sheet_lines.specs.SheetLines.{runLines};
 ghost use Rattle.sheet.specs.PrintLaws.{pendingText, Fed};
-ghost use Rattle.sheet.specs.Sheet.{runLines};
-use crate::print::print_run;
 use decided::EdgeRun;
 use decided::cell_run_unchecked;
 use decided::joins_unchecked;
@@ -20,6 +19,7 @@ use decided::no_run;
 use geometry::Pass;
 use geometry::Superblock;
 use positions::edge_count;
+use sheet_lines::print::print_run_unchecked;
 
 // Where the text ends, and the run that may still grow.
 pub(crate) struct Printed {
@@ -33,7 +33,7 @@ fn print_pending(out: &mut [u8], at: usize, a: EdgeRun) -> usize
     ensures { λ r. ⌜ Put at (pendingText a) (now (out .entry)) (now (out .exit)) r × (r ≤ at + 15) ⌝ }
 {
     if 0 < a.level {
-        return print_run(out, at, a);
+        return print_run_unchecked(out, at, a);
     }
     at
 }

@@ -12,7 +12,7 @@ use Rattle.positions.specs.PositionsLaws.{edge-count-small}
 use Rattle.sheet.specs.Sheet.{sheetSetting}
 use Rattle.sheet.specs.SheetFits.{cells-few}
 use Rattle.sheet.specs.SheetLaws.{cellCount, gridPlaces, levellessAt, cells-bad, cells-without, cells-good}
-use Rattle.sheet.specs.declared.header.SheetHeader.{SheetHeader}
+use Rattle.sheet_lines.specs.declared.header.SheetHeader.{SheetHeader}
 use Rattle.text.specs.TextLaws.{put-then}
 use Rattle.sheet.proofs.print_cells.Statement.{statement}
 use Rattle.sheet.proofs.print_cells.Tie as tie
@@ -31,8 +31,8 @@ bad c = sym (any (c .before .before .before)) ∙ c .before .before .if1 .taken
 bad-place : (c : tie.After-first-bad-word-unchecked) → c .first-bad-word-unchecked .result ≡ first (badCell (cells (c .before .before .before .before .before .before .before))) (cellCount (c .before .before .before .before .before .before .before .args .h))
 bad-place c = rw (c .before .before .before .before .cell-count-unchecked .ensures) at (c .first-bad-word-unchecked .ensures)
 
-print-refusal-requires : tie.Need-print-refusal-requires
-print-refusal-requires c κs =
+print-refusal-unchecked-requires : tie.Need-print-refusal-unchecked-requires
+print-refusal-unchecked-requires c κs =
     let start = c .before .before .before .before .before .before .before in
     let h = start .args .h in
     let to = first-is (badCell (cells start)) (cellCount h) (bad c) .to in
@@ -41,7 +41,7 @@ print-refusal-requires c κs =
 returns : tie.Need-returns
 returns c =
     let start = c .before .before .before .before .before .before .before .before .before .before in
-    rw (cells-bad (start .args .h) (cells start) (bad (c .before .before .before)), ← bad-place (c .before .before .before)) (c .before .before .print-refusal .ensures)
+    rw (cells-bad (start .args .h) (cells start) (bad (c .before .before .before)), ← bad-place (c .before .before .before)) (c .before .before .print-refusal-unchecked .ensures)
 
 -- past the words: the place of the first position without level
 good : (c : tie.Else1) → found (badCell (cells (c .before .before .before .before .before))) (cellCount (c .before .before .before .before .before .args .h)) ≡ false
@@ -64,24 +64,24 @@ without c = first-below _ _ (rw (edges (c .before), place (c .before .before)) a
 present : (c : tie.Else2) → found (levellessAt (c .before .before .before .before .before .before .before .before .before .before .before .args .h) (cells (c .before .before .before .before .before .before .before .before .before .before .before))) (gridPlaces (c .before .before .before .before .before .before .before .before .before .before .before .args .h)) ≡ false
 present c = first-past _ _ (rw (edges (c .before), place (c .before .before)) at (c .if2 .left))
 
-print-refusal-requires-2 : tie.Need-print-refusal-requires-2
-print-refusal-requires-2 c κs = (omega arith, omega (arith, c .before .if2 .taken, c .before .before .edge-count .ensures .1))
+print-refusal-unchecked-requires-2 : tie.Need-print-refusal-unchecked-requires-2
+print-refusal-unchecked-requires-2 c κs = (omega arith, omega (arith, c .before .if2 .taken, c .before .before .edge-count .ensures .1))
 
 returns-2 : tie.Need-returns-2
 returns-2 c =
     let start = c .before .before .before .before .before .before .before .before .before .before .before .before .before .before .before in
-    rw (cells-without (start .args .h) (cells start) (good (c .before .before .before .before .before .before .before .before .before .before)) (without (c .before .before .before .before)), ← place (c .before .before .before .before .before .before)) (c .before .before .print-refusal2 .ensures)
+    rw (cells-without (start .args .h) (cells start) (good (c .before .before .before .before .before .before .before .before .before .before)) (without (c .before .before .before .before)), ← place (c .before .before .before .before .before .before)) (c .before .before .print-refusal-unchecked2 .ensures)
 
 print-runs-requires : tie.Need-print-runs-requires
 print-runs-requires c κs =
     let start = c .before .before .before .before .before .before .before .before .before .before .before .before .before .before .before .before in
-    (omega (arith, c .before .before .before .print-first .ensures .1), rw (c .before .before .before .before .before .before .before .before .before .before .superblock-of .ensures) (start .pre .1), rw (c .before .before .before .before .before .before .before .before .before .before .superblock-of .ensures) (start .pre .2))
+    (omega (arith, c .before .before .before .print-first-unchecked .ensures .1), rw (c .before .before .before .before .before .before .before .before .before .before .superblock-of .ensures) (start .pre .1), rw (c .before .before .before .before .before .before .before .before .before .before .superblock-of .ensures) (start .pre .2))
 
 returns-3 : tie.Need-returns-3
 returns-3 c =
     let start = c .before .before .before .before .before .before .before .before .before .before .before .before .before .before .before .before .before .before .before in
     let lines = rw (c .before .before .before .before .before .before .before .before .before .before .before .before .before .superblock-of .ensures, c .before .before .before .before .before .before .before .before .before .before .before .before .pass-of .ensures) at (c .before .before .print-runs .ensures) in
-    rw (cells-good (start .args .h) (cells start) (good (c .before .before .before .before .before .before .before .before .before .before .before .before .before .before)) (present (c .before .before .before .before .before .before .before .before))) (put-then _ _ _ _ (c .before .before .before .before .before .before .print-first .ensures .0) lines)
+    rw (cells-good (start .args .h) (cells start) (good (c .before .before .before .before .before .before .before .before .before .before .before .before .before .before)) (present (c .before .before .before .before .before .before .before .before))) (put-then _ _ _ _ (c .before .before .before .before .before .before .print-first-unchecked .ensures .0) lines)
 
 pub print-cells-spec : {M : Type 1} → statement M
 print-cells-spec =
@@ -90,7 +90,7 @@ print-cells-spec =
     (search needs)
     (search needs)
     (search needs)
-    print-refusal-requires
+    print-refusal-unchecked-requires
     (search needs)
     returns
     (search needs)
@@ -98,7 +98,7 @@ print-cells-spec =
     first-levelless-unchecked-requires
     (search needs)
     (search needs)
-    print-refusal-requires-2
+    print-refusal-unchecked-requires-2
     (search needs)
     returns-2
     (search needs)

@@ -1,0 +1,3 @@
+pub mod SheetLines
+pub mod HeaderLaws
+pub mod LineLaws
