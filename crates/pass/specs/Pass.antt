@@ -9,9 +9,9 @@ use Rattle.base.specs.Depth.{supported}
 use Rattle.base.specs.First.{refuseFirst}
 use Rattle.base.specs.Outcome.{Outcome, accepted, refuse, Returned}
 use Rattle.cells.specs.Cell.{badCell}
-use Rattle.edges.specs.Decision.{decision, levelless}
+use Rattle.decisions.specs.Decision.{decision, levelless}
 use Rattle.positions.specs.Positions.{passOf, edgeCount, edgeLen, planeX, planeY}
-use Rattle.edges.specs.declared.decision.Decision.{Decision}
+use Rattle.decisions.specs.declared.Decision.{Decision}
 use Rattle.geometry.specs.Frame.{badSubsampling, badFrameSize, badStart, cellsFrom}
 use Rattle.geometry.specs.declared.Pass.{Pass}
 use Rattle.geometry.specs.declared.Superblock.{Superblock}

@@ -13,7 +13,7 @@ use Rattle.base.specs.Depth.{supported}
 use Rattle.base.specs.First.{found, first-is}
 use Rattle.base.specs.Outcome.{Outcome, accepted, refused, refuse, returned, Answers}
 use Rattle.base.specs.OutcomeLaws.{passed, result-is, refuse-place}
-use Rattle.edges.specs.Decision.{levelless}
+use Rattle.decisions.specs.Decision.{levelless}
 use Rattle.positions.specs.Positions.{passOf, Placed, edgeCount}
 use Rattle.positions.specs.PositionsLaws.{placed, edge-count-small}
 use Rattle.geometry.specs.Frame.{badSubsampling, badFrameSize, badStart, cellsFrom}

@@ -11,7 +11,7 @@ use Rattle.cells.specs.Cell.{badCell, bytesAt, wordsAt}
 use Rattle.decided.specs.Decided.{Setting, settingOf}
 use Rattle.decided.specs.Runs.{runs}
 use Rattle.decided.specs.declared.EdgeRun.{EdgeRun}
-use Rattle.edges.specs.Decision.{levelless}
+use Rattle.decisions.specs.Decision.{levelless}
 use Rattle.geometry.specs.Frame.{cellsFrom}
 use Rattle.pass.specs.Pass.{numbersRefused}
 use Rattle.positions.specs.Positions.{passOf, edgeCount}

@@ -16,7 +16,7 @@ use Rattle.base.specs.Tests.{neither}
 use Rattle.cells.specs.Cell.{badCell}
 use Rattle.decided.specs.RunsLaws.{Small, runs-small, runs-count}
 use Rattle.decided.specs.declared.EdgeRun.{EdgeRun}
-use Rattle.edges.specs.Decision.{levelless}
+use Rattle.decisions.specs.Decision.{levelless}
 use Rattle.geometry.specs.Frame.{badSubsampling, badFrameSize, badStart, rowsFrom, cellsFrom}
 use Rattle.pass.specs.Pass.{numbersRefused}
 use Rattle.positions.specs.Positions.{passOf, edgeCount}
