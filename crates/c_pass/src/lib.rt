@@ -4,7 +4,9 @@ ghost use Prim.Native.Nat.{_≤_};
 ghost use Rattle.base.specs.Outcome.{Answers};
 ghost use Rattle.pass.specs.Pass.{superblockLoopFilterCells, returnedOf};
 ghost use Rattle.c_border.specs.Border.{numbersOf};
+
 pub mod unchecked;
+
 use c_border::Refusal;
 use c_border::numbers;
 use pass::PassAnswer;

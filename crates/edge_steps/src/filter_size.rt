@@ -29,14 +29,7 @@ fn at_last(s: Superblock, pass: Pass, x: Luma, y: Luma) -> bool
     }
 }
 
-pub fn filter_size(
-    s: Superblock,
-    pass: Pass,
-    tx_sz: u8,
-    is_32_edge: bool,
-    x: Luma,
-    y: Luma,
-) -> u8
+pub fn filter_size(s: Superblock, pass: Pass, tx_sz: u8, is_32_edge: bool, x: Luma, y: Luma) -> u8
     ensures { λ r. ⌜ r ≡ filterSize s pass «tx_sz» «is_32_edge» (x .0) (y .0) ⌝ }
 {
     let base = base_size(tx_sz, is_32_edge);

@@ -69,13 +69,7 @@ pub fn on_screen_unchecked(s: Superblock, pass: Pass, x: Luma, y: Luma) -> bool
     !((8 * s.cols <= x.0) | (8 * s.rows <= y.0) | at_border(pass, x, y))
 }
 
-pub fn apply_filter(
-    screen: bool,
-    block: bool,
-    transform: bool,
-    intra: bool,
-    skip: bool,
-) -> bool
+pub fn apply_filter(screen: bool, block: bool, transform: bool, intra: bool, skip: bool) -> bool
     ensures { λ r. ⌜ r ≡ applyFilter screen block transform intra skip ⌝ }
 {
     screen & (block | transform & (intra | !skip))
