@@ -4,8 +4,8 @@ use mathlib.Core.Bool.{false}
 use Prim.Native.Nat.{ℕ}
 use lib.IntN.{ℤ}
 use Rattle.base.specs.Outcome.{Outcome, accepted, refused}
-use Rattle.edges.specs.declared.superblock_filter.SuperblockFilterEdge.{SuperblockFilterEdge}
-use Rattle.edges.specs.declared.superblock_filter.SuperblockFilterMi.{SuperblockFilterMi}
+use Rattle.edges.specs.declared.SuperblockFilterEdge.{SuperblockFilterEdge}
+use Rattle.edges.specs.declared.SuperblockFilterMi.{SuperblockFilterMi}
 use Rattle.c_edges.specs.declared.Edge.{Edge}
 
 abbrev pub miOf : (miSize txSz skip : ℕ) (refFrame : ℤ) → SuperblockFilterMi

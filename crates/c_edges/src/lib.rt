@@ -3,8 +3,8 @@ ghost use mathlib.Core.Path.{_≡_};
 ghost use Rattle.base.specs.Outcome.{refused};
 ghost use Rattle.edges.specs.Edge.{superblockFilterEdge, outcomeOf};
 ghost use Rattle.c_edges.specs.EdgeEntry.{entryOf, miOf};
-use edges::superblock_filter::EdgeAnswer;
-use edges::superblock_filter::SuperblockFilterMi;
+use edges::EdgeAnswer;
+use edges::SuperblockFilterMi;
 
 // Number and place of a refusal, or 0 and 0 with the facts.
 #[repr(C)]
@@ -98,7 +98,7 @@ pub extern "C" fn springspade_edge(
         skip,
         ref_frame,
     };
-    let answer = edges::superblock_filter::superblock_filter_edge(
+    let answer = edges::superblock_filter_edge(
         pass,
         row,
         col,

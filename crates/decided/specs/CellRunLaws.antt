@@ -7,8 +7,8 @@ use mathlib.Core.List.{List, [], _∷_, _++_, List·Memᴰ, List·Memᴰ·head, 
 use Prim.Native.Nat.{ℕ, zero, suc, _+_, _-_, _*_, _%_, _≤_, _<_}
 use native.Mathlib.Omega.{arith}
 use lib.Dec.{ltb}
-use Rattle.edges.specs.DecisionLaws.{same-decision}
-use Rattle.edges.specs.declared.decision.Decision.{Decision}
+use Rattle.decisions.specs.DecisionLaws.{same-decision}
+use Rattle.decisions.specs.declared.Decision.{Decision}
 use Rattle.geometry.specs.Coordinates.{shr}
 use Rattle.geometry.specs.declared.Pass.{Pass}
 use Rattle.order.specs.Grid.{keep-if, select, select-same, select-const, select-append, strip, strips, grid, strip-mem, strip-split, grid-all}

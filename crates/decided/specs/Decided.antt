@@ -4,8 +4,8 @@ use mathlib.Core.Bool.{Bool, _&&_}
 use mathlib.Core.List.{List}
 use Prim.Native.Nat.{ℕ}
 use lib.Dec.{eqb, ltb}
-use Rattle.edges.specs.Decision.{decision}
-use Rattle.edges.specs.declared.decision.Decision.{Decision}
+use Rattle.decisions.specs.Decision.{decision}
+use Rattle.decisions.specs.declared.Decision.{Decision}
 use Rattle.geometry.specs.declared.Pass.{Pass}
 use Rattle.geometry.specs.declared.Superblock.{Superblock}
 use Rattle.order.specs.Grid.{select, grid}

@@ -5,8 +5,8 @@ use mathlib.Core.Bool.{Bool, cond, _&&_}
 use mathlib.Core.List.{List, [], _∷_, _++_}
 use Prim.Native.Nat.{ℕ, _+_}
 use lib.Dec.{eqb, leb, ltb}
-use Rattle.edges.specs.Decision.{decision}
-use Rattle.edges.specs.declared.decision.Decision.{Decision}
+use Rattle.decisions.specs.Decision.{decision}
+use Rattle.decisions.specs.declared.Decision.{Decision}
 use Rattle.geometry.specs.declared.Pass.{Pass}
 use Rattle.geometry.specs.declared.Superblock.{Superblock}
 use Rattle.order.specs.Grid.{select, strip, grid}

@@ -9,9 +9,9 @@ use Prim.Native.Nat.{ℕ, _+_, _≤_, _<_}
 use native.Mathlib.Omega.{arith}
 use lib.Dec.{ltb, ltb→lt}
 use lib.ListN.{length}
-use Rattle.edges.specs.Decision.{decision}
-use Rattle.edges.specs.DecisionLaws.{decision-size, decision-level}
-use Rattle.edges.specs.declared.decision.Decision.{Decision}
+use Rattle.decisions.specs.Decision.{decision}
+use Rattle.decisions.specs.DecisionLaws.{decision-size, decision-level}
+use Rattle.decisions.specs.declared.Decision.{Decision}
 use Rattle.geometry.specs.declared.Pass.{Pass}
 use Rattle.geometry.specs.declared.Superblock.{Superblock}
 use Rattle.order.specs.Grid.{select, select-same, select-mem, select-passes, select-select, select-length, grid, grid-length}

@@ -8,9 +8,9 @@ use crate::case_s::TX_SIZE;
 use crate::output::print_flag;
 use crate::output::print_number;
 use crate::output::print_place;
-use edges::superblock_filter::EdgeAnswer;
-use edges::superblock_filter::SuperblockFilterMi;
-use edges::superblock_filter::superblock_filter_edge;
+use edges::EdgeAnswer;
+use edges::SuperblockFilterMi;
+use edges::superblock_filter_edge;
 use libc::STDOUT_FILENO;
 
 // The first position of a vertical edge of plane 0.

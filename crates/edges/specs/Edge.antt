@@ -9,13 +9,13 @@ use Rattle.blocks.specs.ModeInfo.{badBlock, sbSize, isIntra}
 use Rattle.geometry.specs.Frame.{badSubsampling, badFrameSize, badStart}
 use Rattle.geometry.specs.declared.Pass.{Pass}
 use Rattle.geometry.specs.declared.Superblock.{Superblock}
-use Rattle.edges.specs.SuperblockFilter.{loopCell, isBlockEdge, isTxEdge, is32Edge, onScreen, applyFilter}
+use Rattle.edge_steps.specs.SuperblockFilter.{loopCell, isBlockEdge, isTxEdge, is32Edge, onScreen, applyFilter}
 use Rattle.positions.specs.Positions.{sub, edgeCount, edgeLen, lumaX, lumaY, passOf}
-use Rattle.edges.specs.FilterSize.{filterSize}
-use Rattle.edges.specs.declared.superblock_filter.SuperblockFilterMi.{SuperblockFilterMi}
-use Rattle.edges.specs.declared.superblock_filter.SuperblockFilterEdge.{SuperblockFilterEdge}
-use Rattle.edges.specs.declared.superblock_filter.EdgeAnswer.{EdgeAnswer}
-use Rattle.edges.specs.declared.superblock_filter.EdgeAnswer.the-variants.{Done, Subsampling, FrameSize, Row, Block, Pass as BadPass, Column, Grid}
+use Rattle.edge_steps.specs.FilterSize.{filterSize}
+use Rattle.edges.specs.declared.SuperblockFilterMi.{SuperblockFilterMi}
+use Rattle.edges.specs.declared.SuperblockFilterEdge.{SuperblockFilterEdge}
+use Rattle.edges.specs.declared.EdgeAnswer.{EdgeAnswer}
+use Rattle.edges.specs.declared.EdgeAnswer.the-variants.{Done, Subsampling, FrameSize, Row, Block, Pass as BadPass, Column, Grid}
 
 -- steps 7 and 10, for a block of size miSize
 abbrev pub blockEdge : Superblock → Pass → (x y miSize : ℕ) → Bool

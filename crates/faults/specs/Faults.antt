@@ -10,7 +10,7 @@ use Rattle.base.specs.First.{refuseFirst}
 use Rattle.base.specs.Outcome.{Outcome, refuse, Returned}
 use Rattle.cells.specs.Cell.{badCell}
 use Rattle.decided.specs.Decided.{Setting}
-use Rattle.edges.specs.Decision.{levelless}
+use Rattle.decisions.specs.Decision.{levelless}
 use Rattle.geometry.specs.Frame.{badSubsampling, badFrameSize, badStart, cellsFrom}
 use Rattle.geometry.specs.declared.Pass.{Pass}
 use Rattle.positions.specs.Positions.{edgeCount}

@@ -14,7 +14,7 @@ ghost use Rattle.faults.specs.FaultsLaws.{afterwards};
 use base::is_supported;
 use cells::any_bad_word_unchecked;
 use cells::first_bad_word_unchecked;
-use edges::decision::first_levelless_unchecked;
+use decisions::first_levelless_unchecked;
 use geometry::Pass;
 use geometry::Superblock;
 use geometry::bad_frame_size;

@@ -12,9 +12,9 @@ use Rattle.base.specs.First.{found, firstFrom}
 use Rattle.base.specs.Notation.{Clip3}
 use Rattle.base.specs.Outcome.{Outcome, refused, returned}
 use Rattle.cells.specs.Cell.{cellOf, badWord}
-use Rattle.edges.specs.Decision.{cellIndex, decisionBy, decision, levelless}
-use Rattle.edges.specs.FilterSize.{filterSize}
-use Rattle.edges.specs.SuperblockFilter.{loopCell, isBlockEdge, isTxEdge, is32Edge, onScreen, applyFilter}
+use Rattle.decisions.specs.Decision.{cellIndex, decisionBy, decision, levelless}
+use Rattle.edge_steps.specs.FilterSize.{filterSize}
+use Rattle.edge_steps.specs.SuperblockFilter.{loopCell, isBlockEdge, isTxEdge, is32Edge, onScreen, applyFilter}
 use Rattle.positions.specs.Positions.{edgeCount, edgeLen, lumaX, lumaY, planeX, planeY}
 use Rattle.geometry.specs.Frame.{badSubsampling, badFrameSize, badStart}
 use Rattle.geometry.specs.declared.Pass.the-variants.{Vertical}

@@ -6,7 +6,7 @@ use lib.ListN.{length}
 use Rattle.base.specs.Outcome.{Outcome, accepted}
 use Rattle.faults.specs.Faults.{numbersRefused, listsRefused}
 use Rattle.positions.specs.Positions.{passOf, planeX, planeY}
-use Rattle.edges.specs.declared.decision.Decision.{Decision}
+use Rattle.decisions.specs.declared.Decision.{Decision}
 use Rattle.geometry.specs.declared.Pass.{Pass}
 use Rattle.line.specs.SampleFiltering.{sampleFiltering}
 use Rattle.order.specs.Order.{run}

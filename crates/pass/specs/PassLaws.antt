@@ -13,7 +13,7 @@ use Rattle.base.specs.Outcome.{accepted, returned}
 use Rattle.base.specs.OutcomeLaws.{result-is, refuse-place}
 use Rattle.cells.specs.Cell.{badCell}
 use Rattle.decided.specs.Decided.{Setting, settingOf}
-use Rattle.edges.specs.Decision.{levelless}
+use Rattle.decisions.specs.Decision.{levelless}
 use Rattle.faults.specs.FaultsLaws.{Numbers, numbers-passed, Lists, lists-passed}
 use Rattle.geometry.specs.Frame.{badSubsampling, badFrameSize, badStart, cellsFrom}
 use Rattle.geometry.specs.FrameLaws.{sized, cells-small}

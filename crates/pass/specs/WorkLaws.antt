@@ -21,7 +21,7 @@ use Rattle.geometry.specs.Frame.{cellsFrom}
 use Rattle.geometry.specs.declared.Pass.{Pass}
 use Rattle.geometry.specs.declared.Pass.the-variants.{Vertical, Horizontal}
 use Rattle.geometry.specs.declared.Superblock.{Superblock}
-use Rattle.edges.specs.declared.decision.Decision.{Decision}
+use Rattle.decisions.specs.declared.Decision.{Decision}
 use Rattle.line.specs.SampleFiltering.{sampleFiltering}
 use Rattle.line.specs.SampleFilteringLaws.{filters-within}
 use Rattle.order.specs.Grid.{keep-if, select, select-append, strip, grid, mem-strip}

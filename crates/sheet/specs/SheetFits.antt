@@ -15,7 +15,7 @@ use Rattle.base.specs.Outcome.{Outcome, accepted, refused, refuse}
 use Rattle.cells.specs.Cell.{badCell}
 use Rattle.decided.specs.RunsLaws.{Small, runs-small, runs-count}
 use Rattle.decided.specs.declared.EdgeRun.{EdgeRun}
-use Rattle.edges.specs.Decision.{levelless}
+use Rattle.decisions.specs.Decision.{levelless}
 use Rattle.geometry.specs.Frame.{badSubsampling, badFrameSize, badStart, rowsFrom, cellsFrom}
 use Rattle.faults.specs.Faults.{numbersRefused}
 use Rattle.positions.specs.Positions.{passOf, edgeCount}

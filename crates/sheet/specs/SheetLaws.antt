@@ -12,7 +12,7 @@ use Rattle.base.specs.Outcome.{Outcome, accepted, refused}
 use Rattle.cells.specs.Cell.{badCell}
 use Rattle.decided.specs.Runs.{runs}
 use Rattle.decided.specs.declared.EdgeRun.{EdgeRun}
-use Rattle.edges.specs.Decision.{levelless}
+use Rattle.decisions.specs.Decision.{levelless}
 use Rattle.geometry.specs.Frame.{cellsFrom}
 use Rattle.faults.specs.Faults.{numbersRefused}
 use Rattle.positions.specs.Positions.{passOf, edgeCount}

@@ -17,7 +17,7 @@ use cells::any_bad_word_unchecked;
 use cells::bytes::words_at_unchecked;
 use cells::first_bad_word_unchecked;
 use decided::superblock_of;
-use edges::decision::first_levelless_unchecked;
+use decisions::first_levelless_unchecked;
 use faults::PassAnswer;
 use faults::number_faults;
 use faults::number_of;

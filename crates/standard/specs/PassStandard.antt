@@ -16,14 +16,14 @@ use Rattle.blocks.specs.BlockSizes.{uvTxSize}
 use Rattle.blocks.specs.ModeInfo.{isIntra}
 use Rattle.cells.specs.Cell.{cellOf, txOf}
 use Rattle.cells.specs.declared.LfCell.{LfCell}
-use Rattle.edges.specs.Decision.{cellIndex, decisionBy, decision, withoutLevel, levelless}
+use Rattle.decisions.specs.Decision.{cellIndex, decisionBy, decision, withoutLevel, levelless}
 use Rattle.edges.specs.Edge.{edgeFacts}
 use Rattle.positions.specs.Positions.{passOf, Placed, sub, edgeCount, edgeLen, lumaX, lumaY, planeX, planeY}
 use Rattle.positions.specs.PositionsLaws.{edge-len-small}
-use Rattle.edges.specs.LevellessLaws.{levelless-at}
-use Rattle.edges.specs.ScreenLaws.{seen, cell-below}
-use Rattle.edges.specs.SuperblockFilter.{onScreen, applyFilter}
-use Rattle.edges.specs.declared.decision.Decision.{Decision}
+use Rattle.decisions.specs.LevellessLaws.{levelless-at}
+use Rattle.edge_steps.specs.ScreenLaws.{seen, cell-below}
+use Rattle.edge_steps.specs.SuperblockFilter.{onScreen, applyFilter}
+use Rattle.decisions.specs.declared.Decision.{Decision}
 use Rattle.geometry.specs.Frame.{cellsFrom}
 use Rattle.geometry.specs.declared.Pass.{Pass}
 use Rattle.levels.specs.Levels.{levelAt}

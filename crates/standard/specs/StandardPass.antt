@@ -7,11 +7,11 @@ use lib.Dec.{ltb}
 use lib.IntN.{pos, natAbs}
 use lib.ListN.{getD}
 use Rattle.blocks.specs.BlockSizes.{uvTxSize}
-use Rattle.edges.specs.Decision.{cellIndex}
+use Rattle.decisions.specs.Decision.{cellIndex}
 use Rattle.edges.specs.Edge.{edgeFacts}
 use Rattle.positions.specs.Positions.{edgeCount, edgeLen}
-use Rattle.edges.specs.declared.superblock_filter.SuperblockFilterEdge.{SuperblockFilterEdge}
-use Rattle.edges.specs.declared.superblock_filter.SuperblockFilterMi.{SuperblockFilterMi}
+use Rattle.edges.specs.declared.SuperblockFilterEdge.{SuperblockFilterEdge}
+use Rattle.edges.specs.declared.SuperblockFilterMi.{SuperblockFilterMi}
 use Rattle.geometry.specs.Coordinates.{shr}
 use Rattle.geometry.specs.declared.Pass.{Pass}
 use Rattle.geometry.specs.declared.Superblock.{Superblock}

@@ -3,10 +3,10 @@ use crate::numbers::signed32_at;
 use crate::numbers::wide16_at;
 use crate::numbers::wide32_at;
 use crate::replay::Record;
-use edges::superblock_filter::EdgeAnswer;
-use edges::superblock_filter::SuperblockFilterEdge;
-use edges::superblock_filter::SuperblockFilterMi;
-use edges::superblock_filter::superblock_filter_edge;
+use edges::EdgeAnswer;
+use edges::SuperblockFilterEdge;
+use edges::SuperblockFilterMi;
+use edges::superblock_filter_edge;
 
 pub(crate) const LENGTH: usize = 46;
 

@@ -1,7 +1,7 @@
 use borrow.Author.Needs.{needs}
 use mathlib.Core.Path.{_≡_, sym, ap, _∙_}
 use Rattle.edges.specs.Edge.{outcomeOf}
-use Rattle.edges.specs.declared.superblock_filter.EdgeAnswer.{EdgeAnswer}
+use Rattle.edges.specs.declared.EdgeAnswer.{EdgeAnswer}
 use Rattle.c_edges.specs.EdgeEntry.{entryOf}
 use Rattle.c_edges.proofs.entry_of.Statement.{statement}
 use Rattle.c_edges.proofs.entry_of.Tie as tie

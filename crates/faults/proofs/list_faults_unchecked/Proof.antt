@@ -5,7 +5,7 @@ use Prim.Native.Nat.{ℕ, _*_, _^_}
 use lib.ListN.{length}
 use Rattle.base.specs.First.{found}
 use Rattle.base.specs.FirstLaws.{first-below, first-past}
-use Rattle.edges.specs.Decision.{levelless}
+use Rattle.decisions.specs.Decision.{levelless}
 use Rattle.geometry.specs.Frame.{cellsFrom}
 use Rattle.window.specs.Window.{badWindow, badSample}
 use Rattle.window.specs.WindowLaws.{Lent, lent}

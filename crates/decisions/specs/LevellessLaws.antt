@@ -1,0 +1,83 @@
+-- The search for a decided position without level goes from cell to cell: the positions of a cell have one decision.
+-- Assumes nothing.
+use mathlib.Core.Path.{_≡_, _∙_}
+use mathlib.Core.Bool.{Bool, true, false}
+use mathlib.Core.List.{List}
+use Prim.Native.Nat.{ℕ, _+_, _-_, _*_, _/_, _%_, _≤_, _<_}
+use native.Mathlib.Decide.{decLt}
+use native.Mathlib.Omega.{arith}
+use borrow.Author.Tests.{lt-ltb, le-ltb}
+use Rattle.base.specs.First.{firstFrom, first-skip}
+use Rattle.geometry.specs.Coordinates.{shr}
+use Rattle.geometry.specs.declared.Pass.{Pass}
+use Rattle.geometry.specs.declared.Superblock.{Superblock}
+use Rattle.decisions.specs.Decision.{decision, withoutLevel, levelless}
+use Rattle.decisions.specs.DecisionLaws.{same-decision}
+use Rattle.positions.specs.PositionsLaws.{edge-len-small, cell-along}
+use Rattle.positions.specs.Positions.{alongSub, edgeLen}
+
+-- the place of the first position of cell k, 8 cells to an edge
+abbrev pub cellPlace : (sub : Bool) (k : ℕ) → ℕ
+cellPlace sub k = 64 * (k / 8) + shr (8 * (k % 8)) sub
+
+pub place-edges : (sub : Bool) (n : ℕ) → cellPlace sub (8 * n) ≡ 64 * n
+place-edges true n = omega arith
+place-edges false n = omega arith
+
+place-next : (sub : Bool) (k : ℕ) → cellPlace sub k + (cellPlace sub (k + 1) - cellPlace sub k) ≡ cellPlace sub (k + 1)
+place-next true k = omega arith
+place-next false k = omega arith
+
+place-small : (sub : Bool) (k n : ℕ) → k < 8 * n → cellPlace sub (k + 1) ≤ 64 * n
+place-small true k n h = omega arith
+place-small false k n h = omega arith
+
+-- up to the next cell there are the positions of this one, and behind the last of a subsampled edge no positions
+place-inside : (sub : Bool) (k j : ℕ) → j < cellPlace sub (k + 1) - cellPlace sub k → shr (8 * (k % 8)) sub + j < 64
+place-inside true k j h = omega arith
+place-inside false k j h = omega arith
+
+place-behind : (sub : Bool) (k j : ℕ) → j < cellPlace sub (k + 1) - cellPlace sub k → shr 8 sub ≤ j → shr 64 sub ≤ shr (8 * (k % 8)) sub + j
+place-behind true k j h l = omega arith
+place-behind false k j h l = omega arith
+
+module _ (s : Superblock) (pass : Pass) (chroma : Bool) (cells : List ℕ) where
+  pub levelless-at : (edge i : ℕ) → i < edgeLen s pass → levelless s pass chroma cells (64 * edge + i) ≡ withoutLevel (decision s pass chroma cells edge i)
+  unfolding levelless
+  levelless-at edge i h =
+      let small = edge-len-small s pass in
+      let e : (64 * edge + i) / 64 ≡ edge = omega arith in
+      let p : (64 * edge + i) % 64 ≡ i = omega arith in
+      rw (e, p, lt-ltb i (edgeLen s pass) h)
+
+  pub levelless-behind : (edge i : ℕ) → edgeLen s pass ≤ i → i < 64 → levelless s pass chroma cells (64 * edge + i) ≡ false
+  unfolding levelless
+  levelless-behind edge i h l =
+      let p : (64 * edge + i) % 64 ≡ i = omega arith in
+      rw (p, le-ltb i (edgeLen s pass) h)
+
+  pub levelless-cell : (edge c j : ℕ) → c < 8 → j < shr 8 (alongSub s pass)
+      → levelless s pass chroma cells (64 * edge + (shr (8 * c) (alongSub s pass) + j)) ≡ levelless s pass chroma cells (64 * edge + shr (8 * c) (alongSub s pass))
+  levelless-cell edge c j h l =
+      let on = cell-along s pass c h in
+      rw (levelless-at edge (shr (8 * c) (alongSub s pass) + j) (omega arith), levelless-at edge (shr (8 * c) (alongSub s pass)) (omega arith), same-decision s pass chroma cells edge c j l)
+
+  cell-without : (k j : ℕ) → levelless s pass chroma cells (cellPlace (alongSub s pass) k) ≡ false → j < cellPlace (alongSub s pass) (k + 1) - cellPlace (alongSub s pass) k
+      → levelless s pass chroma cells (cellPlace (alongSub s pass) k + j) ≡ false
+  unfolding edgeLen
+  cell-without k j e h =
+      let assoc : cellPlace (alongSub s pass) k + j ≡ 64 * (k / 8) + (shr (8 * (k % 8)) (alongSub s pass) + j) = omega arith in
+      rw assoc (go (decLt j (shr 8 (alongSub s pass))))
+    where
+      go : Dec (j < shr 8 (alongSub s pass)) → levelless s pass chroma cells (64 * (k / 8) + (shr (8 * (k % 8)) (alongSub s pass) + j)) ≡ false
+      go (yes l) = levelless-cell (k / 8) (k % 8) j (omega arith) l ∙ e
+      go (no l) = levelless-behind (k / 8) _ (place-behind (alongSub s pass) k j h (omega arith)) (place-inside (alongSub s pass) k j h)
+
+  -- a search that has come to cell k of n edges goes on at the next cell
+  pub first-next-cell : (k n : ℕ) → k < 8 * n → levelless s pass chroma cells (cellPlace (alongSub s pass) k) ≡ false
+      → firstFrom (levelless s pass chroma cells) (cellPlace (alongSub s pass) k) (64 * n - cellPlace (alongSub s pass) k)
+      ≡ firstFrom (levelless s pass chroma cells) (cellPlace (alongSub s pass) (k + 1)) (64 * n - cellPlace (alongSub s pass) (k + 1))
+  first-next-cell k n h e =
+      let sub = alongSub s pass in
+      let small : cellPlace sub k + (cellPlace sub (k + 1) - cellPlace sub k) ≤ 64 * n = omega (arith, place-next sub k, place-small sub k n h) in
+      rw (place-next sub k) at (first-skip (levelless s pass chroma cells) (cellPlace sub k) (cellPlace sub (k + 1) - cellPlace sub k) (64 * n) small (λ j l. cell-without k j e l))

@@ -1,0 +1,3 @@
+pub mod SuperblockFilter
+pub mod FilterSize
+pub mod ScreenLaws
