@@ -1,0 +1,2 @@
+pub mod CellRecord
+pub mod CellRecordLaws
