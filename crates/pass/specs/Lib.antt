@@ -3,4 +3,5 @@ pub mod WorkLaws
 pub mod PassLaws
 pub mod OrderOfWork
 pub mod PassRange
+pub mod PassFront
 pub mod Cases
