@@ -15,7 +15,8 @@ use faults::number_of;
 use faults::place_of;
 use window::WindowShape;
 
-fn refusal_of(answer: PassAnswer) -> Refusal
+// A pass's answer as it crosses the border.
+pub fn refusal_of_unchecked(answer: PassAnswer) -> Refusal
     requires { ⌜ returnedOf answer .place ≤ 4294967295 ⌝ }
     ensures { λ r. ⌜ numbersOf r ≡ returnedOf answer ⌝ }
 {
@@ -66,5 +67,5 @@ pub extern "C" fn springspade_pass(
         plane,
         pass,
     );
-    refusal_of(answer)
+    refusal_of_unchecked(answer)
 }

@@ -6,6 +6,7 @@ use cells::LfCell;
 use cells::pack_unchecked;
 
 // The fields of a packed cell, a byte each. A flag is 0 or 1.
+#[repr(C)]
 pub struct CellRecord {
     pub width0: u8,
     pub width1: u8,

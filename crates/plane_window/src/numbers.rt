@@ -7,6 +7,7 @@ use pass::superblock_loop_filter_cells;
 use window::WindowShape;
 
 // The numbers of a pass: the frame's, the superblock's, and which plane and pass.
+#[repr(C)]
 pub struct PassNumbers {
     pub sharpness: u8,
     pub depth: u8,

@@ -1,0 +1,25 @@
+// The pass over a window record.
+ghost use Rattle.base.specs.Outcome.{Answers};
+ghost use Rattle.c_border.specs.Border.{numbersOf};
+ghost use Rattle.plane_window.specs.PlaneWindow.{shape, passOver};
+use c_border::Refusal;
+use c_pass::refusal_of_unchecked;
+use plane_window::numbers::PassNumbers;
+use plane_window::pass_plane;
+
+// As springspade_pass, through a record that holds the samples.
+#[no_mangle]
+pub extern "C" fn springspade_pass_window(
+    samples: &mut [u16],
+    cells: &[u32],
+    width: usize,
+    height: usize,
+    stride: usize,
+    top: usize,
+    p: PassNumbers,
+) -> Refusal
+    ensures { λ r. ⌜ Answers (passOver (shape width height stride top) p (now (cells .entry)) (now (samples .entry))) (numbersOf r) (now (samples .entry)) (now (samples .exit)) ⌝ }
+{
+    let answer = pass_plane(samples, cells, width, height, stride, top, p);
+    refusal_of_unchecked(answer)
+}
