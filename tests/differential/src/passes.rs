@@ -1,5 +1,6 @@
 //! Arguments of a pass, random ones among them.
 
+mod records;
 pub mod reached;
 mod samples;
 pub mod small;

@@ -27,6 +27,20 @@ pub struct Edge {
     pub size: u8,
 }
 
+#[repr(C)]
+pub struct PassNumbers {
+    pub sharpness: u8,
+    pub depth: u8,
+    pub subx: u8,
+    pub suby: u8,
+    pub cols: usize,
+    pub rows: usize,
+    pub row: usize,
+    pub col: usize,
+    pub plane: u8,
+    pub pass: u8,
+}
+
 unsafe extern "C" {
     pub fn springspade_level_table(
         level: u8,
@@ -114,6 +128,17 @@ unsafe extern "C" {
         height: usize,
         stride: usize,
         y_origin: usize,
+    ) -> Returned;
+    pub fn springspade_pass_window(
+        samples: *mut u16,
+        samples_len: usize,
+        cells: *const u32,
+        cells_len: usize,
+        width: usize,
+        height: usize,
+        stride: usize,
+        top: usize,
+        numbers: PassNumbers,
     ) -> Returned;
     pub fn springspade_pass_unchecked(
         samples: *mut u16,
