@@ -80,8 +80,8 @@ fits-place i n l r = omega (arith, l, r)
 abbrev word : Ty
 word = tyInt w64
 
-abbrev cellsTy : Ty
-cellsTy = sliceTy (tyRef (named 0) imm (pointee (T.the-row .written)))
+abbrev recordsTy : Ty
+recordsTy = sliceTy (tyRef (named 0) imm (pointee (T.the-row .written)))
 
 abbrev wordsTy : Ty
 wordsTy = sliceTy (tyRef (named 1) mut (tyInt w32))
@@ -204,13 +204,13 @@ module _ {M : Type 1} (𝓤 : URA M) (H : Heap 𝓤) (A : Atoms 𝓤) (W : Given
     fm = fmOf 𝓤 H (W .laws) 𝓣
 
     abbrev En : Env 𝓤 H
-    En = (tyUnit, l₀) ∷ (cellsTy, l₁) ∷ (wordsTy, l₂) ∷ (word, l₃) ∷ (word, l₄) ∷ (tyBool, l₅) ∷ (tyUnit, l₆) ∷ (lentTy, l₇) ∷ (sliceTy lentTy, l₈) ∷ (word, l₉) ∷ (tyPtr, l₁₀) ∷ (T′.mir, l₁₁) ∷ []
+    En = (tyUnit, l₀) ∷ (recordsTy, l₁) ∷ (wordsTy, l₂) ∷ (word, l₃) ∷ (word, l₄) ∷ (tyBool, l₅) ∷ (tyUnit, l₆) ∷ (lentTy, l₇) ∷ (sliceTy lentTy, l₈) ∷ (word, l₉) ∷ (tyPtr, l₁₀) ∷ (T′.mir, l₁₁) ∷ []
 
     -- the invariant, where i records are stored
     abbrev At : Upto → List (Item 𝓤)
     At i = ‵ (froom T′.mir l₁₁ 0) ∷ ‵ (fdies T′.mir l₁₁) ∷ ‵ (froom tyPtr l₁₀ 0) ∷ ‵ (fdies tyPtr l₁₀) ∷ ‵ (froom word l₉ 0) ∷ ‵ (fdies word l₉) ∷ ‵ (froom (sliceTy lentTy) l₈ 0) ∷ ‵ (fdies (sliceTy lentTy) l₈)
         ∷ ‵ (froom lentTy l₇ 0) ∷ ‵ (fdies lentTy l₇) ∷ ‵ (froom tyUnit l₆ 0) ∷ ‵ (fdies tyUnit l₆) ∷ ‵ (froom tyBool l₅ 0) ∷ ‵ (fdies tyBool l₅) ∷ ‵ (fat fullShare word l₄ 0 (vint w64 (i .0))) ∷ ‵ (fdies word l₄)
-        ∷ ‵ (fat fullShare word l₃ 0 (vint w64 n)) ∷ ‵ (fdies word l₃) ∷ ‵ (fat fullShare wordsTy l₂ 0 s′) ∷ ‵ (fdies wordsTy l₂) ∷ ‵ (fat fullShare cellsTy l₁ 0 s) ∷ ‵ (fdies cellsTy l₁) ∷ ‵ (froom tyUnit l₀ 0) ∷ ‵ (fdies tyUnit l₀)
+        ∷ ‵ (fat fullShare word l₃ 0 (vint w64 n)) ∷ ‵ (fdies word l₃) ∷ ‵ (fat fullShare wordsTy l₂ 0 s′) ∷ ‵ (fdies wordsTy l₂) ∷ ‵ (fat fullShare recordsTy l₁ 0 s) ∷ ‵ (fdies recordsTy l₁) ∷ ‵ (froom tyUnit l₀ 0) ∷ ‵ (fdies tyUnit l₀)
         ∷ ‵ (flft κ q) ∷ ‵ (flft κ′ q′) ∷ ‵ Own ∷ ‵ (Own′ (L (i .0))) ∷ []
 
     -- a turn's postcondition: it ends nearer to n, or the loop is left and the rest of the body runs
@@ -222,7 +222,7 @@ module _ {M : Type 1} (𝓤 : URA M) (H : Heap 𝓤) (A : Atoms 𝓤) (W : Given
     more i l =
         assigns ! (bin ! (load ! (from ! (stop !)) (look ! 14 refl)) (load ! (from ! (stop !)) (look ! 16 refl)) tt) (from ! (stop !)) (init ! 12 refl (tt, tt)) $
         rewrite ! 12 (λ (t : Bool). ‵ (fat fullShare tyBool l₅ 0 (vbool t))) (lt-ltb (i .0) n l) refl $ stays ! (load ! (from ! (stop !)) (look ! 12 refl)) $
-        -- [_11; …; _10; …; _9; …; _8; …; _7; …; _6; …; _5; …; _4; …; _3; …; _2; …; _1; …; _0; …; the two tokens; cells'; words']
+        -- [_11; …; _10; …; _9; …; _8; …; _7; …; _6; …; _5; …; _4; …; _3; …; _2; …; _1; …; _0; …; the two tokens; records'; words']
         assigns ! (addr ! (from ! (fld ! refl (hop ! (look-in ! 18 (sub ! 0 refl (whole !))) (stop !))))) (from ! (stop !)) (init ! 8 refl (tt, tt)) $
         assigns ! (agg ! (and-then ! (load ! (from ! (stop !)) (look ! 8 refl)) (and-then ! (load ! (from ! (fld ! refl (stop !))) (look-in ! 18 (sub ! 1 refl (whole !)))) (no-more !)))) (from ! (stop !)) (init ! 6 refl (tt, (tt, (record { fits = room′ .0 }, tt)))) $
         -- the place of record i
@@ -232,25 +232,25 @@ module _ {M : Type 1} (𝓤 : URA M) (H : Heap 𝓤) (A : Atoms 𝓤) (W : Given
         -- the record is copied
         move ! (26 ∷ []) $ use1 W (‵ Own ⊛ ‵ Own) (shr-slice-copy 𝓤 H A W (named 0) κ T.the-row .twice x (s ∷ [])) $ split ! $ fsplit ! $ drop ! $ fsplit ! $ drop ! $ move ! (0 ∷ 26 ∷ []) $
         looks-slice ! tt T.the-row (Is T.the-row) (shows 𝓤 H A T.the-row) spell tell (LL.copy T.the-type T′.the-copy 𝓤 H A W) cs b o (λ q″. elem-out ! T.the-row (Is T.the-row) (shows 𝓤 H A T.the-row) spell tell q″ cs (i .0) none b o l (λ g.
-        -- [record i; what it owns; the others; what shuts; the fractured borrow; cells'; _11; …; _10; …]
+        -- [record i; what it owns; the others; what shuts; the fractured borrow; records'; _11; …; _10; …]
         assigns ! (of-opd ! (load ! (from ! (hop ! (look ! 8 refl) (stop !))) (look-raw ! 0 refl))) (from ! (stop !)) (init ! 6 refl (LL.lawful T.the-type T′.the-laws 𝓤 H A W .typed (elem (i .0)) _ g .0)) $
         elem-back ! T.the-row q″ cs (i .0) none (spell (elem (i .0))) b o l $ shuts-slice ! tt T.the-row q″ cs b o $ move ! (1 ∷ []) $ drop ! $
-        -- [cells' token; cells'; _11; …; _0; …; words' token; words'; k's]: the words are lent again, for a lifetime ν of the call
+        -- [records' token; records'; _11; …; _0; …; words' token; words'; k's]: the words are lent again, for a lifetime ν of the call
         lft-new ! tt (λ ν. move ! (28 ∷ 27 ∷ []) $
         use2 W (later (some (λ (δ : GName). ‵ (MutSlice (named 0) (ν ∷ []) u32 .own (y δ (L (i .0))) (s′ ∷ [])) ⊛ ‵ (Lent ν δ (L (i .0)))))) (lend ν (i .0)) $ await ! tt $ pick ! (λ δ. split ! $
         move ! (2 ∷ 0 ∷ []) $ use2 W (raw (Store 𝓤 H A mem run .pre (to-store ν δ (i .0)))) (goes ν δ (i .0) fits g) $
-        -- [what `store_word` asks; what is lent; cells' token; cells'; _11; …; _10; …; _9; …; _8; …; _7; …; _6; …; _5; …; _4; …]
+        -- [what `store_word` asks; what is lent; records' token; records'; _11; …; _10; …; _9; …; _8; …; _7; …; _6; …; _5; …; _4; …]
         calls-at ! fm (Store 𝓤 H A mem run) known (to-store ν δ (i .0)) (and-then ! (load ! (from ! (stop !)) (look ! 10 refl)) (and-then ! (load ! (from ! (stop !)) (look ! 18 refl)) (and-then ! (load ! (from ! (stop !)) (look ! 4 refl)) (no-more !)))) (λ w.
         use1 W (later (some (λ (r : Unit {0}). ((‵ (flft (ν ∷ []) fullShare) ⊛ ‵ ftrue) ⊛ ‵ (unit .own r (w ∷ []))) ⊛ raw (ensured 𝓤 H A store-word.ended (store-word.clauses 𝓤 H A mem run) (ν ∷ [], tt) (passed δ (i .0)) tt r)))) (id⊢ 𝓤 _) $ await ! tt $ pick ! (λ r.
         split ! $ move ! (1 ∷ []) $ use1 W (some (λ (zs : List ℕ × (Unit {0} × (Unit {0} × Unit {0}))). ‵ (lasts store-word.ended (ν ∷ [], tt) (passed δ (i .0)) zs) ⊛ raw (fact 𝓤 (zs .0 ≡ Next)))) (id⊢ 𝓤 _) $ pick ! (λ zs.
         split ! $ move ! (1 ∷ []) $ heard ! (zs .0 ≡ Next) (λ e. fsplit ! $ fsplit ! $ move ! (1 ∷ []) $ feqL ! (λ len.
         move ! (2 ∷ []) $ split ! $ move ! (1 ∷ []) $ peeks ! unit (Is unit) (shows 𝓤 H A unit) r (w ∷ []) (λ is.
-        -- [the result; its token; the last list; true; what is lent; cells' token; cells'; _11; …; _6 at 17; …]
+        -- [the result; its token; the last list; true; what is lent; records' token; records'; _11; …; _6 at 17; …]
         land ! (from ! (stop !)) (init ! 17 refl (subst (λ (u : Val). Holds (hasTy tyUnit u) × WT u) (sym (ap only is)) (tt, tt))) $
         -- the lifetime is ended, and the words come back
         move ! (1 ∷ []) $ split ! $ lft-end ! tt $ move ! (0 ∷ 5 ∷ 3 ∷ []) $
         use3 W (later (‵ (Own′ (zs .0)) ⊛ ‵ (flft κ′ q′))) (back ν (i .0) δ (zs .0) len) $ await ! tt $ split ! $
-        -- [words'; words' token; true; the result; true; cells' token; cells'; _11; …; _6 at 17; …; _5 at 19; …; _4 at 21; …]
+        -- [words'; words' token; true; the result; true; records' token; records'; _11; …; _6 at 17; …; _5 at 19; …; _4 at 21; …]
         assigns-last ! (bin ! (load ! (from ! (stop !)) (look ! 21 refl)) (lit ! tt) (record { fits = fits′ })) (from ! (stop !)) (store ! 21 refl (tt, record { fits = fits′ })) $
         forget ! 7 refl $ forget ! 9 refl $ forget ! 11 refl $ forget ! 13 refl $ forget ! 15 refl $ forget ! 17 refl $ forget ! 19 refl $
         rewrite ! 0 (λ (m : List ℕ). ‵ (Own′ m)) (e ∙ fill-next cs ws (i .0)) refl $
@@ -272,7 +272,7 @@ module _ {M : Type 1} (𝓤 : URA M) (H : Heap 𝓤) (A : Atoms 𝓤) (W : Given
     ends i l =
         assigns ! (bin ! (load ! (from ! (stop !)) (look ! 14 refl)) (load ! (from ! (stop !)) (look ! 16 refl)) tt) (from ! (stop !)) (init ! 12 refl (tt, tt)) $
         rewrite ! 12 (λ (t : Bool). ‵ (fat fullShare tyBool l₅ 0 (vbool t))) (le-ltb (i .0) n l) refl $ leaves-loop ! (load ! (from ! (stop !)) (look ! 12 refl)) $ exec ! C Λ En code-mir.t-4 (atRet En Post) $
-        -- [_11; …; _5 at 12; …; _0 at 22; …; the two tokens; cells'; words']
+        -- [_11; …; _5 at 12; …; _0 at 22; …; the two tokens; records'; words']
         assigns ! (of-opd ! (unit-lit !)) (from ! (stop !)) (init ! 22 refl (tt, tt)) $
         returns ! (look ! 22 refl) $ forget ! 12 refl $ forget ! 14 refl $ forget ! 16 refl $ forget ! 18 refl $ forget ! 20 refl $ forget ! 22 refl $
         move ! (22 ∷ 23 ∷ []) $ free1 ! $ move ! (20 ∷ 21 ∷ []) $ free1 ! $ move ! (18 ∷ 19 ∷ []) $ free1 ! $ move ! (16 ∷ 17 ∷ []) $ free1 ! $ move ! (14 ∷ 15 ∷ []) $ free1 ! $ move ! (12 ∷ 13 ∷ []) $ free1 ! $ move ! (10 ∷ 11 ∷ []) $ free1 ! $ move ! (8 ∷ 9 ∷ []) $ free1 ! $ move ! (6 ∷ 7 ∷ []) $ free1 ! $ move ! (4 ∷ 5 ∷ []) $ free1 ! $ move ! (2 ∷ 3 ∷ []) $ free1 ! $ free1 ! $ free0 ! $
@@ -294,7 +294,7 @@ module _ {M : Type 1} (𝓤 : URA M) (H : Heap 𝓤) (A : Atoms 𝓤) (W : Given
       assigns ! (of-opd ! (load ! (from ! (fld ! refl (stop !))) (look-in ! 20 (sub ! 1 refl (whole !))))) (from ! (stop !)) (init ! 16 refl (tt, record { fits = room .0 })) $
       assigns ! (of-opd ! (lit ! tt)) (from ! (stop !)) (init ! 14 refl (tt, record { fits = lit< tt })) $
       move ! (24 ∷ []) $ split ! $ move ! (1 ∷ []) $ split ! $ move ! (27 ∷ []) $ fsplit ! $ move ! (1 ∷ []) $ fsplit ! $
-      -- [words'; true; cells'; words' token; true; cells' token; _11; …]
+      -- [words'; true; records'; words' token; true; records' token; _11; …]
       keep ! (6 ∷ 7 ∷ 8 ∷ 9 ∷ 10 ∷ 11 ∷ 12 ∷ 13 ∷ 14 ∷ 15 ∷ 16 ∷ 17 ∷ 18 ∷ 19 ∷ 20 ∷ 21 ∷ 22 ∷ 23 ∷ 24 ∷ 25 ∷ 26 ∷ 27 ∷ 28 ∷ 29 ∷ 5 ∷ 3 ∷ 2 ∷ 0 ∷ []) $ first ! $ blocks ! $
       loops ! 𝓣 Nearer Nearer-wf (At 𝓣 known l₀ l₁ l₂ l₃ l₄ l₅ l₆ l₇ l₈ l₉ l₁₀ l₁₁) (turns 𝓣 known l₀ l₁ l₂ l₃ l₄ l₅ l₆ l₇ l₈ l₉ l₁₀ l₁₁) (0, zero-le)))))))))))))
 

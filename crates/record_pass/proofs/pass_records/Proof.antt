@@ -1,7 +1,7 @@
 -- A walk of the function's MIR. The words are a local array: it is lent as a `&mut` slice to `fill`, for a lifetime of that call, and as a shared slice to `pass_words`, for a lifetime of that one.
 -- Assumes nothing.
 use mathlib.Core.Path.{_≡_, refl, sym, _∙_, ap, subst}
-use Prim.Native.Nat.{ℕ, _<_, _^_, _*_}
+use Prim.Native.Nat.{ℕ, _<_, _^_}
 use mathlib.Core.List.{[], _∷_, List}
 use lib.Dec.{T as Holds, lit<}
 use lib.ListN.{length, take, replicate, length-replicate}
@@ -50,7 +50,6 @@ use denote.Triple.Walked.{says, Stays, stay-none, gave-slice, stay-none-slice, w
 use denote.Exit.{yes}
 use Rattle.base.specs.Filled.{filled}
 use Rattle.base.specs.Outcome.{Answers}
-use Rattle.cell_records.specs.CellRecord.{wordsOf}
 use Rattle.cell_records.specs.declared.CellRecord.{CellRecord}
 use Rattle.cell_records.proofs.CellRecord as T
 use Rattle.faults.specs.Faults.{returnedOf}
