@@ -1,0 +1,2 @@
+pub mod RecordPass
+pub mod RecordPassLaws
