@@ -2,7 +2,7 @@
 -- Assumes nothing.
 use mathlib.Core.List.{List}
 use Prim.Native.Nat.{ℕ}
-use lib.ListN.{getD, take}
+use lib.ListN.{getD}
 use Rattle.base.specs.Outcome.{Outcome}
 use Rattle.window.specs.declared.WindowShape.{WindowShape}
 use Rattle.cell_records.specs.CellRecord.{wordOf, wordsOf, none}
@@ -14,6 +14,6 @@ use Rattle.plane_window.specs.declared.numbers.PassNumbers.{PassNumbers}
 abbrev pub recordWord : List CellRecord → ℕ → ℕ
 recordWord records k = wordOf (getD records k none)
 
--- the pass over records. Those past the largest row are not looked at
+-- the pass over records
 abbrev pub passRecords : WindowShape → PassNumbers → List CellRecord → (samples : List ℕ) → Outcome (List ℕ)
-passRecords g p records samples = passOver g p (take 65536 (wordsOf records)) samples
+passRecords g p records samples = passOver g p (wordsOf records) samples

@@ -1,6 +1,7 @@
--- Laws of the words that a loop stores for a list of records: where the words end first, the rest of the records is left out.
+-- Laws of the words that a loop stores for a list of records: where the words end first, the rest of the records is left out, and no pass
+-- would have read it (`pass-stored`).
 -- Assumes nothing.
-use mathlib.Core.Path.{_≡_, refl, sym, subst, _∙_}
+use mathlib.Core.Path.{_≡_, refl, sym, ap, subst, _∙_}
 use mathlib.Core.Bool.{Bool, true, false}
 use mathlib.Core.List.{List, [], _∷_}
 use Prim.Native.Nat.{ℕ, zero, suc, _+_, _-_, _≤_}
@@ -13,7 +14,11 @@ use lib.Seq.{set-out, take-all, take-append-le}
 use Rattle.base.specs.Filled.{filled, table, length-filled, take-filled}
 use Rattle.cell_records.specs.CellRecord.{wordsOf}
 use Rattle.cell_records.specs.declared.CellRecord.{CellRecord}
-use Rattle.record_pass.specs.RecordPass.{recordWord}
+use Rattle.pass.specs.PassFront.{pass-front}
+use Rattle.plane_window.specs.PlaneWindow.{passOver}
+use Rattle.plane_window.specs.declared.numbers.PassNumbers.{PassNumbers}
+use Rattle.window.specs.declared.WindowShape.{WindowShape}
+use Rattle.record_pass.specs.RecordPass.{recordWord, passRecords}
 
 -- nothing is stored past the end
 pub filled-past : (f : ℕ → ℕ) (m n : ℕ) (l : List ℕ) → length l ≡ m → filled f 0 (m + n) l ≡ filled f 0 m l
@@ -55,6 +60,13 @@ pub stored : (f : ℕ → ℕ) (m n : ℕ) (l : List ℕ) → length l ≡ m →
 stored f m n l e = either f m n l e (ltb m n) refl
 
 -- so it is with the words of records
-pub words-stored : (records : List CellRecord) (l : List ℕ) → length l ≡ 65536 → take (length records) (filled (recordWord records) 0 (length records) l) ≡ take 65536 (wordsOf records)
+words-stored : (records : List CellRecord) (l : List ℕ) → length l ≡ 65536 → take (length records) (filled (recordWord records) 0 (length records) l) ≡ take 65536 (wordsOf records)
 unfolding wordsOf
 words-stored records l e = stored (recordWord records) 65536 (length records) l e
+
+-- and no pass reads a cell behind the first 65,536
+pub pass-stored : (g : WindowShape) (p : PassNumbers) (records : List CellRecord) (l samples : List ℕ) → length l ≡ 65536
+    → passOver g p (take (length records) (filled (recordWord records) 0 (length records) l)) samples ≡ passRecords g p records samples
+pass-stored g p records l samples e =
+    ap (λ (words : List ℕ). passOver g p words samples) (words-stored records l e)
+    ∙ pass-front g (p .sharpness) (p .depth) (p .subx) (p .suby) (p .cols) (p .rows) (p .row) (p .col) (p .plane) (p .pass) (wordsOf records) samples

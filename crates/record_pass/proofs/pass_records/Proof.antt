@@ -49,7 +49,7 @@ use denote.Triple.Table.{entered, cited}
 use denote.Triple.Walked.{says, Stays, stay-none, gave-slice, stay-none-slice, walkOf, goes-none, goes-gave-slice, goes-none-slice, Walks, ends-at, walked, walk-meets}
 use denote.Exit.{yes}
 use Rattle.base.specs.Filled.{filled}
-use Rattle.base.specs.Outcome.{Answers}
+use Rattle.base.specs.Outcome.{Outcome, Answers}
 use Rattle.cell_records.specs.declared.CellRecord.{CellRecord}
 use Rattle.cell_records.proofs.CellRecord as T
 use Rattle.faults.specs.Faults.{returnedOf}
@@ -61,7 +61,7 @@ use Rattle.plane_window.specs.declared.numbers.PassNumbers.{PassNumbers}
 use Rattle.plane_window.proofs.numbers.PassNumbers as P
 use Rattle.plane_window.proofs.numbers.PassNumbers.Laws as P′
 use Rattle.record_pass.specs.RecordPass.{recordWord, passRecords}
-use Rattle.record_pass.specs.RecordPassLaws.{words-stored}
+use Rattle.record_pass.specs.RecordPassLaws.{pass-stored}
 use Rattle.record_pass.proofs.fill as fill
 use Rattle.record_pass.proofs.fill.Symbol as fill-def
 use Rattle.record_pass.proofs.fill.Symbol.{name as #fill}
@@ -233,7 +233,9 @@ module _ {M : Type 1} (𝓤 : URA M) (H : Heap 𝓤) (A : Atoms 𝓤) (W : Given
   Said r zs = Answers (passRecords (shape n₁ n₂ n₃ n₄) d cs ss) (returnedOf r) ss zs
 
   both : (r : PassAnswer) (zs ws : List ℕ) → Filled ws → Passes r zs ws → Said r zs
-  both r zs ws e f = subst (λ (l : List ℕ). Answers (passOver (shape n₁ n₂ n₃ n₄) d l ss) (returnedOf r) ss zs) (ap (take n) e ∙ words-stored cs zeros len₀) f
+  both r zs ws e f =
+      subst (λ (o : Outcome (List ℕ)). Answers o (returnedOf r) ss zs)
+      (ap (λ (l : List ℕ). passOver (shape n₁ n₂ n₃ n₄) d (take n l) ss) e ∙ pass-stored (shape n₁ n₂ n₃ n₄) d cs zeros ss len₀) f
 
   exits : (r : PassAnswer) (w : Val) (zs : List ℕ) → Said r zs → length zs ≡ length ss
       → ent 𝓤 (⋆ 𝓤 H A (‵ (flft κ q) ∷ (‵ (flft κ₁ q₁) ⊛ ‵ ftrue) ∷ ‵ Own ∷ ‵ (finally u16 γ₁ zs) ∷ ‵ (S.the-row .own r (w ∷ [])) ∷ [])) (Post w)
