@@ -2,6 +2,8 @@
 ghost use Rattle.base.specs.Outcome.{Answers};
 ghost use Rattle.c_border.specs.Border.{numbersOf};
 ghost use Rattle.plane_window.specs.PlaneWindow.{shape, passOver};
+pub mod records;
+
 use c_border::Refusal;
 use c_pass::refusal_of_unchecked;
 use plane_window::numbers::PassNumbers;
