@@ -2,6 +2,7 @@
 ghost use Rattle.base.specs.Outcome.{Answers};
 ghost use Rattle.c_border.specs.Border.{numbersOf};
 ghost use Rattle.plane_window.specs.PlaneWindow.{shape, passOver};
+
 pub mod records;
 
 use c_border::Refusal;

@@ -20,7 +20,7 @@ fn crossed(answer: PassAnswer) -> Refusal
 {
     Refusal {
         number: number_of(answer),
-        place: place_of(answer) as u32,
+        place: (place_of(answer) % 4294967296) as u32,
     }
 }
 
