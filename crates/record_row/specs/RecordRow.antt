@@ -50,6 +50,6 @@ madeOf (Level k) p = 0
 madeOf Short p = 0
 madeOf (Block k) p = 0
 
--- the numbers of a row that was not refused
+-- where the row was not refused, its numbers passed the tests
 abbrev pub Fits : RowAnswer → RowNumbers → Type 0
 Fits answer p = answer ≡ Done → (p .base ≤ p .rows) × (p .cols ≤ 8192)

@@ -2,12 +2,12 @@
 -- Assumes nothing.
 use mathlib.Core.Path.{_≡_, refl, sym, _∙_, ap, subst}
 use mathlib.Core.Bool.{Bool, true, false, not}
-use mathlib.Core.List.{List, [], _∷_}
+use mathlib.Core.List.{List, _∷_}
 use Prim.Native.Nat.{ℕ, zero, suc, _≤_, _<_, min}
 use native.Mathlib.Nat.{le-of-suc-le-suc, not-suc-le-zero}
 use native.Mathlib.Omega.{arith}
 use lib.Dec.{eqb, ltb, lit<}
-use lib.ListN.{length, getD, set, take, replicate, length-set, length-replicate}
+use lib.ListN.{length, take, replicate, length-set, length-replicate}
 use lib.Seq.{getD-take}
 use borrow.Author.Tests.{ltb-false, not-false}
 use Rattle.base.specs.Depth.{supported}
@@ -15,8 +15,7 @@ use Rattle.base.specs.Filled.{filled}
 use Rattle.base.specs.First.{first, found}
 use Rattle.base.specs.Outcome.{Outcome, accepted, refused, refuse, Returned, returned, held, Answers}
 use Rattle.geometry.specs.Frame.{badSubsampling, badFrameSize, badStart}
-use Rattle.geometry.specs.FrameLaws.{sized, started, cells-small}
-use Rattle.cell_records.specs.CellRecord.{recordOf}
+use Rattle.geometry.specs.FrameLaws.{sized, started}
 use Rattle.cell_records.specs.declared.CellRecord.{CellRecord}
 use Rattle.row.specs.Row.{ModeInfo, wordAt, badLevel, tooShort, badAt, row, returnedOf}
 use Rattle.row.specs.RowLaws.{long, row-filled}
@@ -30,7 +29,7 @@ use Rattle.record_row.specs.declared.RowNumbers.{RowNumbers}
 pub stored-len : (ws : List ℕ) (k : ℕ) (rs : List CellRecord) → length (stored ws k rs) ≡ length rs
 unfolding stored
 stored-len ws zero rs = refl
-stored-len ws (suc k) rs = length-set (stored ws k rs) k (recordOf (getD ws k 0)) ∙ stored-len ws k rs
+stored-len ws (suc k) rs = length-set (stored ws k rs) k _ ∙ stored-len ws k rs
 
 pub stored-none : (ws : List ℕ) (rs : List CellRecord) → stored ws 0 rs ≡ rs
 unfolding stored

@@ -11,8 +11,6 @@ use Rattle.record_row.specs.declared.RowNumbers.{RowNumbers}
 use Rattle.record_row.specs.RecordRow.{madeOf}
 use Rattle.record_row.proofs.made_unchecked.Statement.{statement}
 use Rattle.record_row.proofs.made_unchecked.Tie as tie
-use Rattle.record_row.proofs.made_unchecked.Reads as reads
-use Rattle.record_row.proofs.made_unchecked.Lts as lts
 
 abbrev refusals : List ℕ
 refusals = 1 ∷ 2 ∷ 3 ∷ 4 ∷ 5 ∷ 6 ∷ 7 ∷ 8 ∷ []

@@ -1,6 +1,6 @@
--- `record_row::put_record` meets its contract: a walk of its MIR, by hand. The slice's borrow is opened, record i is taken out, written, and put back, and the borrow is closed.
+-- A walk of the function's MIR. The slice's borrow is opened, record i is taken out, written, and put back, and the borrow is closed.
 -- Assumes nothing.
-use mathlib.Core.Path.{_≡_, refl, sym, ap, subst}
+use mathlib.Core.Path.{refl, sym, ap, subst}
 use Prim.Native.Nat.{ℕ, _<_, _^_, _*_}
 use native.Mathlib.Omega.{arith}
 use mathlib.Core.List.{[], _∷_, List}
