@@ -1,9 +1,8 @@
 use std::{env, path::Path};
 
 // An archive of the C border for each operation, as `tests/archives` writes them.
-const ARCHIVES: [&str; 8] = [
-    "c_levels", "c_strength", "c_line", "c_edges", "c_row", "c_pass", "c_records", "c_sheet",
-];
+const ARCHIVES: [&str; 8] =
+    ["c_levels", "c_strength", "c_line", "c_edges", "c_row", "c_pass", "c_records", "c_sheet"];
 
 fn main() {
     println!("cargo::rerun-if-env-changed=SPRINGSPADE_LIB");

@@ -1,7 +1,7 @@
 //! Arguments of a pass, random ones among them.
 
-mod records;
 pub mod reached;
+mod records;
 mod samples;
 pub mod small;
 mod unchecked;

@@ -1,6 +1,6 @@
 //! The C functions of the archives of the C border.
 
-use crate::{Cell, Returned};
+use crate::{Cell, CellRecord, Returned};
 
 #[repr(C)]
 pub struct Strength {
@@ -134,6 +134,17 @@ unsafe extern "C" {
         samples_len: usize,
         cells: *const u32,
         cells_len: usize,
+        width: usize,
+        height: usize,
+        stride: usize,
+        top: usize,
+        numbers: PassNumbers,
+    ) -> Returned;
+    pub fn springspade_pass_records(
+        records: *const CellRecord,
+        records_len: usize,
+        samples: *mut u16,
+        samples_len: usize,
         width: usize,
         height: usize,
         stride: usize,

@@ -94,3 +94,41 @@ impl From<Cell> for CellRecord {
         }
     }
 }
+
+/// `pass` over cells as records. A field that is too large for its bits of the word is refused as the
+/// word with a zero bit set is: 11, with the cell as its place.
+#[inline]
+pub fn pass_records(
+    samples: &mut [u16],
+    window: &Window,
+    records: &[CellRecord],
+    frame: &Frame,
+    at: &Superblock,
+) -> Result<(), Refused> {
+    pass_records_returned(samples, window, records, frame, at).accepted()
+}
+
+/// The same, as the C function gives it.
+#[inline]
+pub fn pass_records_returned(
+    samples: &mut [u16],
+    window: &Window,
+    records: &[CellRecord],
+    frame: &Frame,
+    at: &Superblock,
+) -> Returned {
+    // SAFETY: each pointer goes with the length of its own slice.
+    unsafe {
+        c::springspade_pass_records(
+            records.as_ptr(),
+            records.len(),
+            samples.as_mut_ptr(),
+            samples.len(),
+            window.width,
+            window.height,
+            window.stride,
+            window.y_origin,
+            numbers(frame, at),
+        )
+    }
+}

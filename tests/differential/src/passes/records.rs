@@ -1,7 +1,9 @@
-//! The pass over a window that holds its samples.
+//! The pass by records: a window that holds its samples, cells with a byte for each field.
 
 use super::Pass;
-use springspade::{PlaneWindow, Returned, pass_window_returned};
+use springspade::{
+    CellRecord, PlaneWindow, Returned, cell, pass_records_returned, pass_window_returned,
+};
 
 impl Pass {
     /// What ours returns for the window as a record, and the lent samples after it. Those beside them are left.
@@ -10,5 +12,16 @@ impl Pass {
         self.guarded(|samples| {
             pass_window_returned(PlaneWindow { samples, shape: *window }, cells, frame, at)
         })
+    }
+
+    /// The cells as records. What stands in a word's zero bits is lost.
+    pub fn records(&self) -> Vec<CellRecord> {
+        self.cells.iter().map(|&word| cell(word).into()).collect()
+    }
+
+    /// What ours returns for cells as records, and the lent samples after it. Those beside them are left.
+    pub fn ours_by_records(&self, records: &[CellRecord]) -> (Returned, Vec<u16>) {
+        let Pass { frame, at, window, .. } = self;
+        self.guarded(|samples| pass_records_returned(samples, window, records, frame, at))
     }
 }
