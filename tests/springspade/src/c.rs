@@ -41,6 +41,17 @@ pub struct PassNumbers {
     pub pass: u8,
 }
 
+#[repr(C)]
+pub struct RowNumbers {
+    pub sharpness: u8,
+    pub depth: u8,
+    pub subx: u8,
+    pub suby: u8,
+    pub cols: usize,
+    pub rows: usize,
+    pub base: usize,
+}
+
 unsafe extern "C" {
     pub fn springspade_level_table(
         level: u8,
@@ -92,6 +103,24 @@ unsafe extern "C" {
         base: usize,
         cells: *mut u32,
         cells_len: usize,
+    ) -> Returned;
+    pub fn springspade_row_records(
+        mi_sizes: *const u8,
+        mi_sizes_len: usize,
+        tx_sizes: *const u8,
+        tx_sizes_len: usize,
+        skips: *const u8,
+        skips_len: usize,
+        ref_frames: *const i32,
+        ref_frames_len: usize,
+        y_modes: *const u8,
+        y_modes_len: usize,
+        segment_ids: *const u8,
+        segment_ids_len: usize,
+        levels: &[u8; 64],
+        numbers: RowNumbers,
+        records: *mut CellRecord,
+        records_len: usize,
     ) -> Returned;
     pub safe fn springspade_cell(word: u32) -> Cell;
     pub safe fn springspade_edge(

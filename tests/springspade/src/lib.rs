@@ -18,6 +18,7 @@ pub use line::line;
 pub use pass::{Superblock, Window, pass, pass_returned, pass_unchecked};
 pub use records::{
     CellRecord, PlaneWindow, pass_records, pass_records_returned, pass_window, pass_window_returned,
+    row_records, row_records_returned,
 };
 pub use row::{Frame, ModeInfo, row, row_returned};
 pub use sheet::{SHEET_ROOM, sheet, sheet_into};

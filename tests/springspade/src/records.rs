@@ -1,7 +1,7 @@
 //! The forms by records: a window that holds its samples, and cells with a byte for each field.
 
-use crate::c::{self, PassNumbers};
-use crate::{Cell, Frame, Refused, Returned, Superblock, Window};
+use crate::c::{self, PassNumbers, RowNumbers};
+use crate::{Cell, Frame, ModeInfo, Refused, Returned, Superblock, Window};
 
 /// A window together with the samples that it is of.
 #[derive(Debug)]
@@ -129,6 +129,59 @@ pub fn pass_records_returned(
             window.stride,
             window.y_origin,
             numbers(frame, at),
+        )
+    }
+}
+
+/// `row` into a list of records. Records behind the row's cells are left.
+#[inline]
+pub fn row_records(
+    info: &ModeInfo,
+    levels: &[u8; 64],
+    frame: &Frame,
+    base: usize,
+    records: &mut [CellRecord],
+) -> Result<(), Refused> {
+    row_records_returned(info, levels, frame, base, records).accepted()
+}
+
+/// The same, as the C function gives it.
+#[inline]
+pub fn row_records_returned(
+    info: &ModeInfo,
+    levels: &[u8; 64],
+    frame: &Frame,
+    base: usize,
+    records: &mut [CellRecord],
+) -> Returned {
+    let numbers = RowNumbers {
+        sharpness: frame.sharpness,
+        depth: frame.depth,
+        subx: frame.sub_x,
+        suby: frame.sub_y,
+        cols: frame.mi_cols,
+        rows: frame.mi_rows,
+        base,
+    };
+    // SAFETY: each pointer goes with the length of its own slice.
+    unsafe {
+        c::springspade_row_records(
+            info.mi_sizes.as_ptr(),
+            info.mi_sizes.len(),
+            info.tx_sizes.as_ptr(),
+            info.tx_sizes.len(),
+            info.skips.as_ptr(),
+            info.skips.len(),
+            info.ref_frames.as_ptr(),
+            info.ref_frames.len(),
+            info.y_modes.as_ptr(),
+            info.y_modes.len(),
+            info.segment_ids.as_ptr(),
+            info.segment_ids.len(),
+            levels,
+            numbers,
+            records.as_mut_ptr(),
+            records.len(),
         )
     }
 }
