@@ -4,6 +4,7 @@ ghost use Rattle.c_border.specs.Border.{numbersOf};
 ghost use Rattle.plane_window.specs.PlaneWindow.{shape, passOver};
 
 pub mod records;
+pub mod rows;
 
 use c_border::Refusal;
 use c_pass::refusal_of_unchecked;
