@@ -10,7 +10,7 @@ pub struct Refusal {
     pub place: u32,
 }
 
-pub fn numbers(number: u32, place: usize) -> Refusal
+pub fn numbers_unchecked(number: u32, place: usize) -> Refusal
     requires { ⌜ place ≤ 4294967295 ⌝ }
     ensures { λ r. ⌜ numbersOf r ≡ record { number = number; place = place } ⌝ }
 {

@@ -9,18 +9,17 @@ ghost use Rattle.c_border.specs.Border.{numbersOf};
 pub mod unchecked;
 
 use c_border::Refusal;
-use c_border::numbers;
+use c_border::numbers_unchecked;
 use faults::PassAnswer;
 use faults::number_of;
 use faults::place_of;
 use window::WindowShape;
 
-// A pass's answer as it crosses the border.
-pub fn refusal_of_unchecked(answer: PassAnswer) -> Refusal
+fn refusal_of(answer: PassAnswer) -> Refusal
     requires { ⌜ returnedOf answer .place ≤ 4294967295 ⌝ }
     ensures { λ r. ⌜ numbersOf r ≡ returnedOf answer ⌝ }
 {
-    numbers(number_of(answer), place_of(answer))
+    numbers_unchecked(number_of(answer), place_of(answer))
 }
 
 // The cells are those of the superblock row that starts at row. The window is height rows of width samples, stride apart, the
@@ -67,5 +66,5 @@ pub extern "C" fn springspade_pass(
         plane,
         pass,
     );
-    refusal_of_unchecked(answer)
+    refusal_of(answer)
 }

@@ -15,7 +15,7 @@ use plane_window::numbers::PassNumbers;
 use record_pass::pass_records;
 
 // An answer as it crosses the border, its place in 32 bits.
-fn crossed(answer: PassAnswer) -> Refusal
+pub(crate) fn crossed(answer: PassAnswer) -> Refusal
     ensures { λ r. ⌜ numbersOf r ≡ record { number = returnedOf answer .number; place = returnedOf answer .place % 4294967296 } ⌝ }
 {
     Refusal {

@@ -6,7 +6,7 @@ ghost use Rattle.c_border.specs.Border.{numbersOf};
 ghost use Rattle.record_row.specs.RecordRow.{rowRecords};
 ghost use Rattle.row.specs.Row.{modeInfo, returnedOf};
 use c_border::Refusal;
-use c_border::numbers;
+use c_border::numbers_unchecked;
 use cell_records::CellRecord;
 use record_row::RowNumbers;
 use record_row::row_records;
@@ -17,15 +17,15 @@ fn crossed_row(answer: RowAnswer) -> Refusal
     ensures { λ r. ⌜ numbersOf r ≡ record { number = returnedOf answer .number; place = returnedOf answer .place % 4294967296 } ⌝ }
 {
     match answer {
-        RowAnswer::Done => numbers(0, 0),
-        RowAnswer::Sharpness => numbers(1, 0),
-        RowAnswer::Depth => numbers(2, 0),
-        RowAnswer::Subsampling => numbers(3, 0),
-        RowAnswer::FrameSize => numbers(4, 0),
-        RowAnswer::Base => numbers(5, 0),
-        RowAnswer::Level(k) => numbers(6, k % 4294967296),
-        RowAnswer::Short => numbers(7, 0),
-        RowAnswer::Block(k) => numbers(8, k % 4294967296),
+        RowAnswer::Done => numbers_unchecked(0, 0),
+        RowAnswer::Sharpness => numbers_unchecked(1, 0),
+        RowAnswer::Depth => numbers_unchecked(2, 0),
+        RowAnswer::Subsampling => numbers_unchecked(3, 0),
+        RowAnswer::FrameSize => numbers_unchecked(4, 0),
+        RowAnswer::Base => numbers_unchecked(5, 0),
+        RowAnswer::Level(k) => numbers_unchecked(6, k % 4294967296),
+        RowAnswer::Short => numbers_unchecked(7, 0),
+        RowAnswer::Block(k) => numbers_unchecked(8, k % 4294967296),
     }
 }
 

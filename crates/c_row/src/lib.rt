@@ -6,7 +6,7 @@ ghost use Rattle.cells.specs.Cell.{cellOf};
 ghost use Rattle.row.specs.Row.{modeInfo, row, returnedOf};
 ghost use Rattle.c_border.specs.Border.{numbersOf};
 use c_border::Refusal;
-use c_border::numbers;
+use c_border::numbers_unchecked;
 use cells::LfCell;
 use row::RowAnswer;
 
@@ -15,15 +15,15 @@ fn refusal_of(answer: RowAnswer) -> Refusal
     ensures { λ r. ⌜ numbersOf r ≡ returnedOf answer ⌝ }
 {
     match answer {
-        RowAnswer::Done => numbers(0, 0),
-        RowAnswer::Sharpness => numbers(1, 0),
-        RowAnswer::Depth => numbers(2, 0),
-        RowAnswer::Subsampling => numbers(3, 0),
-        RowAnswer::FrameSize => numbers(4, 0),
-        RowAnswer::Base => numbers(5, 0),
-        RowAnswer::Level(k) => numbers(6, k),
-        RowAnswer::Short => numbers(7, 0),
-        RowAnswer::Block(k) => numbers(8, k),
+        RowAnswer::Done => numbers_unchecked(0, 0),
+        RowAnswer::Sharpness => numbers_unchecked(1, 0),
+        RowAnswer::Depth => numbers_unchecked(2, 0),
+        RowAnswer::Subsampling => numbers_unchecked(3, 0),
+        RowAnswer::FrameSize => numbers_unchecked(4, 0),
+        RowAnswer::Base => numbers_unchecked(5, 0),
+        RowAnswer::Level(k) => numbers_unchecked(6, k),
+        RowAnswer::Short => numbers_unchecked(7, 0),
+        RowAnswer::Block(k) => numbers_unchecked(8, k),
     }
 }
 

@@ -17,8 +17,8 @@ pub use levels::{Lists, LoopFilter, Segmentation, level_table, level_table_into}
 pub use line::line;
 pub use pass::{Superblock, Window, pass, pass_returned, pass_unchecked};
 pub use records::{
-    CellRecord, PlaneWindow, pass_records, pass_records_returned, pass_window, pass_window_returned,
-    row_records, row_records_returned,
+    CellRecord, PlaneWindow, pass_records, pass_records_returned, pass_window,
+    pass_window_returned, row_records, row_records_returned,
 };
 pub use row::{Frame, ModeInfo, row, row_returned};
 pub use sheet::{SHEET_ROOM, sheet, sheet_into};
