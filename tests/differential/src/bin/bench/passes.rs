@@ -50,6 +50,10 @@ pub fn rows() {
             entry(&shape, depth, "mixed");
         }
     }
+    println!("by cell records the entry also packs the cells of the row at each call");
+    for shape in [ROW, ONE] {
+        by_records(&shape, 8, "mixed");
+    }
 }
 
 /// A row of the table for the pass without its tests.
@@ -68,6 +72,16 @@ fn entry(shape: &Shape, depth: u8, kind: &str) {
     let passes = superblocks(shape, depth, kind);
     let (mut ours, mut rust) = Default::default();
     row(&name, RUNS, luma(shape), || passes.checked(&mut ours), || passes.rust(&mut rust));
+    passes.compare(&name, &ours);
+    passes.compare(&name, &rust);
+}
+
+/// The same for the entry over cell records.
+fn by_records(shape: &Shape, depth: u8, kind: &str) {
+    let name = format!("records, {}, depth {depth}, {kind}", shape.name);
+    let passes = superblocks(shape, depth, kind);
+    let (mut ours, mut rust) = Default::default();
+    row(&name, RUNS, luma(shape), || passes.by_records(&mut ours), || passes.rust(&mut rust));
     passes.compare(&name, &ours);
     passes.compare(&name, &rust);
 }

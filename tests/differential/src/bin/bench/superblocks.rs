@@ -7,7 +7,7 @@ use differential::positions::{decided, is_inside, taps};
 use differential::rows::Row;
 use differential::rust;
 use oracle::superblock_loop_filter::{HookRow, hook_row};
-use springspade::{Frame, Superblock, Window};
+use springspade::{CellRecord, Frame, Superblock, Window, cell};
 use std::{hint::black_box, ops::Range};
 
 pub struct Superblocks {
@@ -61,6 +61,18 @@ impl Superblocks {
             self.each_pass(|at, window| {
                 let samples = &mut planes[at.plane as usize];
                 springspade::pass(samples, window, &self.words, &self.frame, at).unwrap();
+            });
+        })
+    }
+
+    /// The same by our entry over cell records.
+    pub fn by_records(&self, planes: &mut Planes) -> f64 {
+        planes.clone_from(&self.before);
+        let records: Vec<CellRecord> = self.words.iter().map(|&word| cell(word).into()).collect();
+        nanoseconds(|| {
+            self.each_pass(|at, window| {
+                let samples = &mut planes[at.plane as usize];
+                springspade::pass_records(samples, window, &records, &self.frame, at).unwrap();
             });
         })
     }
