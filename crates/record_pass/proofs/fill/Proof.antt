@@ -56,7 +56,7 @@ use Rattle.cell_records.specs.declared.CellRecord.{CellRecord}
 use Rattle.cell_records.proofs.CellRecord as T
 use Rattle.cell_records.proofs.CellRecord.Laws as T′
 use Rattle.record_pass.specs.RecordPass.{recordWord}
-use Rattle.record_pass.proofs.Again.{LentAgain, lends-again, comes-back}
+use Rattle.cell_records.proofs.Again.{LentAgain, lends-again, comes-back}
 use Rattle.record_pass.proofs.store_word as store-word
 use Rattle.record_pass.proofs.store_word.Symbol as store-word-def
 use Rattle.record_pass.proofs.store_word.Symbol.{name as #store-word}

@@ -54,7 +54,7 @@ use Rattle.cell_records.proofs.CellRecord as T
 use Rattle.cell_records.proofs.CellRecord.Laws as T′
 use Rattle.record_row.specs.RecordRow.{stored}
 use Rattle.record_row.specs.RecordRowLaws.{stored-len}
-use Rattle.record_row.proofs.Again.{LentAgain, lends-again, comes-back}
+use Rattle.cell_records.proofs.Again.{LentAgain, lends-again, comes-back}
 use Rattle.record_row.proofs.record_at_unchecked as record-at
 use Rattle.record_row.proofs.record_at_unchecked.Symbol as record-at-def
 use Rattle.record_row.proofs.record_at_unchecked.Symbol.{name as #record-at}
