@@ -1,1 +1,2 @@
 pub mod Border
+pub mod BorderLaws

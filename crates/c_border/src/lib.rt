@@ -1,7 +1,6 @@
 // What crosses the border after a call.
 ghost use mathlib.Core.Path.{_≡_};
-ghost use Prim.Native.Nat.{_≤_};
-ghost use Rattle.c_border.specs.Border.{numbersOf};
+ghost use Rattle.c_border.specs.Border.{numbersOf, crossing};
 
 // A refusal's number and place; 0 and 0 where the call was accepted.
 #[repr(C)]
@@ -10,12 +9,12 @@ pub struct Refusal {
     pub place: u32,
 }
 
-pub fn numbers_unchecked(number: u32, place: usize) -> Refusal
-    requires { ⌜ place ≤ 4294967295 ⌝ }
-    ensures { λ r. ⌜ numbersOf r ≡ record { number = number; place = place } ⌝ }
+// Number and place as they cross, the place in 32 bits.
+pub fn crossed(number: u32, place: usize) -> Refusal
+    ensures { λ r. ⌜ numbersOf r ≡ crossing (record { number = number; place = place }) ⌝ }
 {
     Refusal {
         number,
-        place: place as u32,
+        place: (place % 4294967296) as u32,
     }
 }

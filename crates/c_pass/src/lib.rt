@@ -1,25 +1,26 @@
 // One pass over one superblock of a plane.
 ghost use mathlib.Core.Path.{_≡_};
-ghost use Prim.Native.Nat.{_≤_};
 ghost use Rattle.base.specs.Outcome.{Answers};
 ghost use Rattle.pass.specs.Pass.{superblockLoopFilterCells};
 ghost use Rattle.faults.specs.Faults.{returnedOf};
-ghost use Rattle.c_border.specs.Border.{numbersOf};
+ghost use Rattle.c_border.specs.Border.{numbersOf, crossing};
 
 pub mod unchecked;
 
 use c_border::Refusal;
-use c_border::numbers_unchecked;
+use c_border::crossed;
 use faults::PassAnswer;
 use faults::number_of;
 use faults::place_of;
 use window::WindowShape;
 
-fn refusal_of(answer: PassAnswer) -> Refusal
-    requires { ⌜ returnedOf answer .place ≤ 4294967295 ⌝ }
-    ensures { λ r. ⌜ numbersOf r ≡ returnedOf answer ⌝ }
+// An answer as it crosses the border.
+pub fn refusal_of(answer: PassAnswer) -> Refusal
+    ensures { λ r. ⌜ numbersOf r ≡ crossing (returnedOf answer) ⌝ }
 {
-    numbers_unchecked(number_of(answer), place_of(answer))
+    let number = number_of(answer);
+    let place = place_of(answer);
+    crossed(number, place)
 }
 
 // The cells are those of the superblock row that starts at row. The window is height rows of width samples, stride apart, the

@@ -7,9 +7,9 @@ pub mod records;
 pub mod rows;
 
 use c_border::Refusal;
+use c_pass::refusal_of;
 use plane_window::numbers::PassNumbers;
 use plane_window::pass_plane;
-use records::crossed;
 
 // As springspade_pass, through a record that holds the samples.
 #[no_mangle]
@@ -25,5 +25,5 @@ pub extern "C" fn springspade_pass_window(
     ensures { λ r. ⌜ Answers (passOver (shape width height stride top) p (now (cells .entry)) (now (samples .entry))) (numbersOf r) (now (samples .entry)) (now (samples .exit)) ⌝ }
 {
     let answer = pass_plane(samples, cells, width, height, stride, top, p);
-    crossed(answer)
+    refusal_of(answer)
 }

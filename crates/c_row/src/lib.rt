@@ -1,29 +1,28 @@
 // The cells of a superblock row, and a cell read from its word.
 ghost use mathlib.Core.Path.{_≡_};
-ghost use Prim.Native.Nat.{_≤_};
 ghost use Rattle.base.specs.Outcome.{Answers};
 ghost use Rattle.cells.specs.Cell.{cellOf};
 ghost use Rattle.row.specs.Row.{modeInfo, row, returnedOf};
-ghost use Rattle.c_border.specs.Border.{numbersOf};
+ghost use Rattle.c_border.specs.Border.{numbersOf, crossing};
 use c_border::Refusal;
-use c_border::numbers_unchecked;
+use c_border::crossed;
 use cells::LfCell;
 use row::RowAnswer;
 
-fn refusal_of(answer: RowAnswer) -> Refusal
-    requires { ⌜ returnedOf answer .place ≤ 4294967295 ⌝ }
-    ensures { λ r. ⌜ numbersOf r ≡ returnedOf answer ⌝ }
+// An answer as it crosses the border.
+pub fn refusal_of(answer: RowAnswer) -> Refusal
+    ensures { λ r. ⌜ numbersOf r ≡ crossing (returnedOf answer) ⌝ }
 {
     match answer {
-        RowAnswer::Done => numbers_unchecked(0, 0),
-        RowAnswer::Sharpness => numbers_unchecked(1, 0),
-        RowAnswer::Depth => numbers_unchecked(2, 0),
-        RowAnswer::Subsampling => numbers_unchecked(3, 0),
-        RowAnswer::FrameSize => numbers_unchecked(4, 0),
-        RowAnswer::Base => numbers_unchecked(5, 0),
-        RowAnswer::Level(k) => numbers_unchecked(6, k),
-        RowAnswer::Short => numbers_unchecked(7, 0),
-        RowAnswer::Block(k) => numbers_unchecked(8, k),
+        RowAnswer::Done => crossed(0, 0),
+        RowAnswer::Sharpness => crossed(1, 0),
+        RowAnswer::Depth => crossed(2, 0),
+        RowAnswer::Subsampling => crossed(3, 0),
+        RowAnswer::FrameSize => crossed(4, 0),
+        RowAnswer::Base => crossed(5, 0),
+        RowAnswer::Level(k) => crossed(6, k),
+        RowAnswer::Short => crossed(7, 0),
+        RowAnswer::Block(k) => crossed(8, k),
     }
 }
 

@@ -23,7 +23,7 @@ fn store_word(words: &mut [u32], i: usize, c: CellRecord)
 }
 
 // Each record's word is stored at the record's place, as far as there is room.
-pub fn fill(records: &[CellRecord], words: &mut [u32])
+fn fill(records: &[CellRecord], words: &mut [u32])
     ensures { λ _. ⌜ now (words .exit) ≡ filled (recordWord (now (records .entry))) 0 (length (now (records .entry))) (now (words .entry)) ⌝ }
 {
     let n = records.len();

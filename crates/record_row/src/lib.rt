@@ -29,7 +29,7 @@ fn put_record(records: &mut [CellRecord], i: usize, c: CellRecord)
 }
 
 // The first count records become those of the words; what stands behind is left.
-pub fn store_records_unchecked(words: &[u32], count: usize, records: &mut [CellRecord])
+fn store_records_unchecked(words: &[u32], count: usize, records: &mut [CellRecord])
     requires { ⌜ (count ≤ length (now words)) × (count ≤ length (now records)) ⌝ }
     ensures { λ _. ⌜ now (records .exit) ≡ stored (now (words .entry)) count (now (records .entry)) ⌝ }
 {

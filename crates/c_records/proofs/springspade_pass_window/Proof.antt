@@ -5,7 +5,7 @@ use denote.Ref.{now}
 use Rattle.faults.specs.Faults.{returnedOf}
 use Rattle.pass.specs.PassLaws.{pass-place}
 use Rattle.plane_window.specs.PlaneWindow.{shape}
-use Rattle.c_records.proofs.Places.{fits}
+use Rattle.c_border.specs.BorderLaws.{crossing-small}
 use Rattle.c_records.proofs.springspade_pass_window.Statement.{statement}
 use Rattle.c_records.proofs.springspade_pass_window.Tie as tie
 
@@ -17,7 +17,7 @@ returns c =
     let place : returnedOf (f .result) .place ≤ 4294967295 =
     rw (f .ensures .0)
     (pass-place (shape (a .width) (a .height) (a .stride) (a .top)) (p .sharpness) (p .depth) (p .subx) (p .suby) (p .cols) (p .rows) (p .row) (p .col) (p .plane) (p .pass) (now (a .cells)) (now (a .samples))) in
-    (c .crossed .ensures ∙ (λ i. record { number = returnedOf (f .result) .number; place = fits (returnedOf (f .result) .place) place i }) ∙ f .ensures .0, f .ensures .1)
+    (c .refusal-of .ensures ∙ crossing-small (returnedOf (f .result)) place ∙ f .ensures .0, f .ensures .1)
 
 pub springspade-pass-window-spec : {M : Type 1} → statement M
 springspade-pass-window-spec = tie.close (tie.spec (search needs) (search needs) (search needs) returns)

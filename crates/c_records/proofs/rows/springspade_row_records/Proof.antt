@@ -2,7 +2,7 @@
 -- What the slices own goes to `row_records`, for good.
 -- Assumes nothing.
 use mathlib.Core.Path.{_≡_, refl, _∙_}
-use Prim.Native.Nat.{ℕ, _≤_, _%_}
+use Prim.Native.Nat.{ℕ, _≤_}
 use native.Mathlib.Omega.{arith}
 use mathlib.Core.List.{[], _∷_, List}
 use lib.IntN.{ℤ}
@@ -42,7 +42,8 @@ use denote.Triple.Table.{entered, cited}
 use denote.Triple.Walked.{says, Stays, stay-dropped, gave-slice, walkOf, goes-dropped, goes-gave-slice, Walks, ends-at, walked, walk-meets}
 use denote.Exit.{yes}
 use Rattle.base.specs.Outcome.{Outcome, accepted, refused, Answers, Returned, returned}
-use Rattle.c_border.specs.Border.{numbersOf}
+use Rattle.c_border.specs.Border.{numbersOf, crossing}
+use Rattle.c_border.specs.BorderLaws.{crossing-small}
 use Rattle.c_border.specs.declared.Refusal.{Refusal}
 use Rattle.c_border.proofs.Refusal as R
 use Rattle.c_border.proofs.Refusal.Laws as R′
@@ -61,10 +62,10 @@ use Rattle.record_row.proofs.row_records as row-records
 use Rattle.record_row.proofs.row_records.Symbol as row-records-def
 use Rattle.record_row.proofs.row_records.Symbol.{name as #row-records}
 use Rattle.record_row.proofs.row_records.Met as row-records-thm
-use Rattle.c_records.proofs.rows.crossed_row as crossed
-use Rattle.c_records.proofs.rows.crossed_row.Symbol as crossed-def
-use Rattle.c_records.proofs.rows.crossed_row.Symbol.{name as #crossed}
-use Rattle.c_records.proofs.rows.crossed_row.Met as crossed-thm
+use Rattle.c_row.proofs.refusal_of as refusal-of
+use Rattle.c_row.proofs.refusal_of.Symbol as refusal-of-def
+use Rattle.c_row.proofs.refusal_of.Symbol.{name as #refusal-of}
+use Rattle.c_row.proofs.refusal_of.Met as refusal-of-thm
 use Rattle.c_records.proofs.rows.springspade_row_records.Key.{name as #entry}
 use Rattle.c_records.proofs.rows.springspade_row_records as entry
 use Rattle.c_records.proofs.rows.springspade_row_records.Statement as stated
@@ -98,10 +99,6 @@ spell d = P′.lowered d ∷ []
 abbrev tell : Tells P.the-row (Is P.the-row) spell
 tell = P′.lowers .val-is
 
--- a place fits 32 bits, so that it crosses as it is
-fits : (n : ℕ) → n ≤ 65536 → n % 4294967296 ≡ n
-fits n h = omega (arith, h)
-
 -- a refusal is passed on, so that its place is that of the row over words
 place-in : (o : Outcome (List ℕ)) (n : ℕ) (rs : List CellRecord) → returned o .place ≤ 65536 → returned (asRecords o n rs) .place ≤ 65536
 place-in (accepted ws) n rs h = omega arith
@@ -118,7 +115,7 @@ module _ {M : Type 1} (𝓤 : URA M) (H : Heap 𝓤) (A : Atoms 𝓤) (mem : Mem
   Row = tripleOf 𝓤 H A row-records.signature (row-records.spec 𝓤 H A mem run)
 
   abbrev Cross : Contract 𝓤
-  Cross = tripleOf 𝓤 H A crossed.signature (crossed.spec 𝓤 H A mem run)
+  Cross = tripleOf 𝓤 H A refusal-of.signature (refusal-of.spec 𝓤 H A mem run)
 
 module _ {M : Type 1} (𝓤 : URA M) (H : Heap 𝓤) (A : Atoms 𝓤) (W : Given 𝓤 H A) (mem : Memory → SProp 𝓤) (run : Routine → Fun 𝓤)
     (κs : Lfts 8) (qs : Shares 8) (x₀ x₁ x₂ : RefT (List ℕ)) (x₃ : RefT (List ℤ)) (x₄ x₅ x₆ : RefT (List ℕ)) (d : RowNumbers) (y : RefT (List CellRecord))
@@ -221,7 +218,7 @@ module _ {M : Type 1} (𝓤 : URA M) (H : Heap 𝓤) (A : Atoms 𝓤) (W : Given
   Rows r zs = Answers (rowRecords Mi lv d rs) (returnedOf r) rs zs
 
   abbrev Crosses : RowAnswer → Refusal → Type 0
-  Crosses r v = numbersOf v ≡ record { number = returnedOf r .number; place = returnedOf r .place % 4294967296 }
+  Crosses r v = numbersOf v ≡ crossing (returnedOf r)
 
   abbrev Said : Refusal → List CellRecord → Type 0
   Said v zs = Answers (rowRecords Mi lv d rs) (numbersOf v) rs zs
@@ -229,7 +226,7 @@ module _ {M : Type 1} (𝓤 : URA M) (H : Heap 𝓤) (A : Atoms 𝓤) (W : Given
   both : (r : RowAnswer) (v : Refusal) (zs : List CellRecord) → Rows r zs → Crosses r v → Said v zs
   both r v zs e f =
       let place : returnedOf r .place ≤ 65536 = rw (e .0) (records-place Mi lv d rs) in
-      (f ∙ (λ i. record { number = returnedOf r .number; place = fits (returnedOf r .place) place i }) ∙ e .0, e .1)
+      (f ∙ crossing-small (returnedOf r) (omega (arith, place)) ∙ e .0, e .1)
 
   -- what each callee's triple binds outside, and that the caller has what it asks
   abbrev to-row : Row 𝓤 H A mem run .Ghost
@@ -250,9 +247,9 @@ module _ {M : Type 1} (𝓤 : URA M) (H : Heap 𝓤) (A : Atoms 𝓤) (W : Given
   goes-cross : (r : RowAnswer) (u : Val) → ent 𝓤 (⋆ 𝓤 H A (‵ (S.the-row .own r (u ∷ [])) ∷ [])) (Cross 𝓤 H A mem run .pre (to-cross r u))
   goes-cross r u = qed W (‵ (S.the-row .own r (u ∷ [])) ∷ []) ∵ nothing ! $ move ! (1 ∷ 0 ∷ []) $ fjoin ! $ nothing ! $ join ! $ frame ! $ done !
 
-  -- of what `crossed_row` ensures, the clause alone: it has no last value
-  cross-says : (r : RowAnswer) (v : Refusal) → ent 𝓤 (ensured 𝓤 H A crossed.ended (crossed.clauses 𝓤 H A mem run) tt (r, tt) tt v) (fact 𝓤 (Crosses r v))
-  cross-says r v = exE 𝓤 _ (λ ws. snd∗ 𝓤 (sem 𝓤 H A (lasts crossed.ended tt (r, tt) ws)) (fact 𝓤 (Crosses r v)))
+  -- of what `refusal_of` ensures, the clause alone: it has no last value
+  cross-says : (r : RowAnswer) (v : Refusal) → ent 𝓤 (ensured 𝓤 H A refusal-of.ended (refusal-of.clauses 𝓤 H A mem run) tt (r, tt) tt v) (fact 𝓤 (Crosses r v))
+  cross-says r v = exE 𝓤 _ (λ ws. snd∗ 𝓤 (sem 𝓤 H A (lasts refusal-of.ended tt (r, tt) ws)) (fact 𝓤 (Crosses r v)))
 
   exits : (v : Refusal) (w : Val) (zs : List CellRecord) → Said v zs → length zs ≡ n → ent 𝓤 (⋆ 𝓤 H A (Tok ∷ ‵ (finally T.the-row (y .name) zs) ∷ ‵ (R.the-row .own v (w ∷ [])) ∷ [])) (Post w)
   exits v w zs e l =
@@ -260,7 +257,7 @@ module _ {M : Type 1} (𝓤 : URA M) (H : Heap 𝓤) (A : Atoms 𝓤) (W : Given
       suffices ! _ (ends-at 𝓤 H A entry.ended stayed (entry.clauses 𝓤 H A mem run) W ((κs, qs, tt, a, vals), tt) w v (tt, (tt, (tt, (tt, (tt, (tt, (tt, (tt, (zs, tt))))))))) (tt, (tt, (tt, (tt, (tt, (tt, (tt, (tt, (l, tt)))))))))) $ says ! e $ frame ! $
       nothing ! $ move ! (1 ∷ 0 ∷ []) $ fjoin ! $ nothing ! $ fjoin ! $ nothing ! $ fjoin ! $ nothing ! $ fjoin ! $ nothing ! $ fjoin ! $ nothing ! $ fjoin ! $ nothing ! $ fjoin ! $ nothing ! $ fjoin ! $ nothing ! $ fjoin ! $ done !
 
-  module _ (C : Calls 𝓤 H) (Λ : Loops 𝓤 H) (fm : FmC 𝓤 H (W .laws) C) (known-row : Triple 𝓤 (C #row-records) (Row 𝓤 H A mem run)) (known-cross : Triple 𝓤 (C #crossed) (Cross 𝓤 H A mem run)) where
+  module _ (C : Calls 𝓤 H) (Λ : Loops 𝓤 H) (fm : FmC 𝓤 H (W .laws) C) (known-row : Triple 𝓤 (C #row-records) (Row 𝓤 H A mem run)) (known-cross : Triple 𝓤 (C #refusal-of) (Cross 𝓤 H A mem run)) where
     walk : ent 𝓤 (onEntry 𝓤 H A entry.signature κs qs a vals) (WpFn 𝓤 H C Λ code.function words Post)
     walk =
         qed W (Tok ∷ ‵ (owns typesR a vals) ∷ []) ∵ enter ! C Λ code.function words _ $
@@ -276,11 +273,11 @@ module _ {M : Type 1} (𝓤 : URA M) (H : Heap 𝓤) (A : Atoms 𝓤) (W : Given
         split ! $ move ! (1 ∷ []) $ use1 W (some (λ (zs : Last). ‵ (lasts row-records.ended κs a zs) ⊛ raw (fact 𝓤 (Rows r (lastOf zs))))) (id⊢ 𝓤 _) $ pick ! (λ zs.
         split ! $ move ! (1 ∷ []) $ heard ! (Rows r (lastOf zs)) (λ e. fsplit ! $ drop ! $ fsplit ! $ drop ! $ fsplit ! $ drop ! $ fsplit ! $ drop ! $ fsplit ! $ drop ! $ fsplit ! $ drop ! $ fsplit ! $ drop ! $ fsplit ! $ drop ! $ fsplit ! $ fsplit ! $ move ! (2 ∷ []) $ drop ! $ move ! (1 ∷ []) $ feqL ! (λ l.
         move ! (1 ∷ []) $ split ! $ move ! (1 ∷ []) $ peeks ! S.the-row (Is S.the-row) (shows 𝓤 H A S.the-row) r (u ∷ []) (λ is.
-        -- [the answer; the tokens; the last list; _12; …; _10 at 7; …]: `crossed_row`
+        -- [the answer; the tokens; the last list; _12; …; _10 at 7; …]: `refusal_of`
         land ! (from ! (stop !)) (init ! 7 refl (EL.lawful S.the-type S′.the-laws 𝓤 H A W tt .typed r _ is .0)) $
         use1 W (raw (Cross 𝓤 H A mem run .pre (to-cross r u))) (goes-cross r u) $
         calls-at ! fm (Cross 𝓤 H A mem run) known-cross (to-cross r u) (and-then ! (load ! (from ! (stop !)) (look ! 7 refl)) (no-more !)) (λ w.
-        use1 W (later (some (λ (v : Refusal). (‵ ftrue ⊛ ‵ (R.the-row .own v (w ∷ []))) ⊛ raw (ensured 𝓤 H A crossed.ended (crossed.clauses 𝓤 H A mem run) tt (r, tt) tt v)))) (id⊢ 𝓤 _) $ await ! tt $ pick ! (λ v.
+        use1 W (later (some (λ (v : Refusal). (‵ ftrue ⊛ ‵ (R.the-row .own v (w ∷ []))) ⊛ raw (ensured 𝓤 H A refusal-of.ended (refusal-of.clauses 𝓤 H A mem run) tt (r, tt) tt v)))) (id⊢ 𝓤 _) $ await ! tt $ pick ! (λ v.
         split ! $ move ! (1 ∷ []) $ use1 W (raw (fact 𝓤 (Crosses r v))) (cross-says r v) $ heard ! (Crosses r v) (λ f.
         split ! $ move ! (1 ∷ []) $ peeks ! R.the-row (Is R.the-row) (shows 𝓤 H A R.the-row) v (w ∷ []) (λ is′.
         -- [the refusal; true; the tokens; the last list; _12; …; _0 at 28; …]
@@ -290,7 +287,7 @@ module _ {M : Type 1} (𝓤 : URA M) (H : Heap 𝓤) (A : Atoms 𝓤) (W : Given
         keep ! (2 ∷ 3 ∷ 0 ∷ []) $ by ! (exits v w (lastOf zs) (both r v (lastOf zs) e f) l))))))))))))))))))))))))
 
 module _ {M : Type 1} (𝓤 : URA M) (H : Heap 𝓤) (A : Atoms 𝓤) (W : Given 𝓤 H A) (mem : Memory → SProp 𝓤) (run : Routine → Fun 𝓤) where
-  entry-walks : (C : Calls 𝓤 H) (Λ : Loops 𝓤 H) → FmC 𝓤 H (W .laws) C → Triple 𝓤 (C #row-records) (Row 𝓤 H A mem run) → Triple 𝓤 (C #crossed) (Cross 𝓤 H A mem run)
+  entry-walks : (C : Calls 𝓤 H) (Λ : Loops 𝓤 H) → FmC 𝓤 H (W .laws) C → Triple 𝓤 (C #row-records) (Row 𝓤 H A mem run) → Triple 𝓤 (C #refusal-of) (Cross 𝓤 H A mem run)
       → Walks 𝓤 H A entry.ended stayed (WpFn 𝓤 H C Λ code.function) (entry.clauses 𝓤 H A mem run)
   entry-walks C Λ fm known-row known-cross = walked 𝓤 H A entry.ended stayed (entry.clauses 𝓤 H A mem run) (WpFn 𝓤 H C Λ code.function)
       (λ κs. (slice-vals, (slice-vals, (slice-vals, (slice-vals, (slice-vals, (slice-vals, (ptr-vals, (spell, (slice-vals, tt))))))))))
@@ -315,7 +312,7 @@ module _ {M : Type 1} (𝓤 : URA M) (H : Heap 𝓤) (A : Atoms 𝓤) (W : Given
       (are .0 .0 .1) (are .1 .0 .0 .1) (are .1 .1 .0 .0 .1) (are .1 .1 .1 .0 .0 .1) (are .1 .1 .1 .1 .0 .0 .1) (are .1 .1 .1 .1 .1 .0 .0 .1) (are .1 .1 .1 .1 .1 .1 .1 .0) (are .1 .1 .1 .1 .1 .1 .1 .1 .0 .0 .1) C Λ fm known-row known-cross))
 
 entry-meets : {M : Type 1} (𝓤 : URA M) (H : Heap 𝓤) (A : Atoms 𝓤) → Given 𝓤 H A → (mem : Memory → SProp 𝓤) (run : Routine → Fun 𝓤) (𝓣 : Tables 𝓤 H)
-    → Triple 𝓤 (𝓣 .C #row-records) (Row 𝓤 H A mem run) → Triple 𝓤 (𝓣 .C #crossed) (Cross 𝓤 H A mem run)
+    → Triple 𝓤 (𝓣 .C #row-records) (Row 𝓤 H A mem run) → Triple 𝓤 (𝓣 .C #refusal-of) (Cross 𝓤 H A mem run)
     → Meets 𝓤 H A entry.signature (WpFn 𝓤 H (𝓣 .C) (𝓣 .Λ) code.function) (entry.spec 𝓤 H A mem run)
 entry-meets 𝓤 H A W mem run 𝓣 known-row known-cross =
     walk-meets 𝓤 H A entry.ended stayed W (
@@ -353,4 +350,4 @@ springspade-row-records-spec 𝓤 H 𝓜 𝓖 𝓡 =
     (tables 𝓤 H 𝓜 𝓡 code.env .C) (tables 𝓤 H 𝓜 𝓡 code.env .Λ) #entry code.function (code.unfolded 𝓤 H 𝓜 𝓡)
     (entry-meets 𝓤 H (𝓖 .A) (givenOf 𝓤 H 𝓜 𝓖) (𝓜 .mem) (𝓡 .run) (tablesOf 𝓤 H 𝓜 (tables 𝓤 H 𝓜 𝓡 code.env))
     (cited 𝓤 H (Row 𝓤 H (𝓖 .A) (𝓜 .mem) (𝓡 .run)) 𝓜 𝓡 code.env #row-records row-records-def.routine code.calls-record-row·row-records (row-records-thm.met 𝓤 H 𝓜 𝓖 𝓡))
-    (cited 𝓤 H (Cross 𝓤 H (𝓖 .A) (𝓜 .mem) (𝓡 .run)) 𝓜 𝓡 code.env #crossed crossed-def.routine code.calls-c-records·rows·crossed-row (crossed-thm.met 𝓤 H 𝓜 𝓖 𝓡)))
+    (cited 𝓤 H (Cross 𝓤 H (𝓖 .A) (𝓜 .mem) (𝓡 .run)) 𝓜 𝓡 code.env #refusal-of refusal-of-def.routine code.calls-c-row·refusal-of (refusal-of-thm.met 𝓤 H 𝓜 𝓖 𝓡)))
