@@ -1,7 +1,8 @@
 //! Arguments of the level table: the document's cases and random ones.
 
 use crate::random::Random;
-use springspade::{Lists, LoopFilter, Segmentation};
+use crate::returned::Lists;
+use springspade::{LoopFilter, Segmentation};
 
 #[derive(Debug, Clone, Copy, PartialEq, Eq)]
 pub struct Case {

@@ -7,8 +7,8 @@ use springspade::Position;
 /// The first position of a frame of one block.
 pub const FIRST: Position = Position {
     pass: 0,
-    row: 0,
-    col: 0,
+    mi_row: 0,
+    mi_col: 0,
     edge: 0,
     i: 0,
     sub_x: 0,
@@ -16,7 +16,7 @@ pub const FIRST: Position = Position {
     mi_cols: 1,
     mi_rows: 1,
     mi_size: 0,
-    tx_sz: 0,
+    tx_size: 0,
     skip: 0,
     ref_frame: 0,
 };
@@ -24,8 +24,8 @@ pub const FIRST: Position = Position {
 /// The last position of the last superblock of a frame, all its numbers the largest that are accepted.
 pub const LAST: Position = Position {
     pass: 1,
-    row: 8,
-    col: 16,
+    mi_row: 8,
+    mi_col: 16,
     edge: 7,
     i: 31,
     sub_x: 1,
@@ -33,7 +33,7 @@ pub const LAST: Position = Position {
     mi_cols: 17,
     mi_rows: 9,
     mi_size: 12,
-    tx_sz: 3,
+    tx_size: 3,
     skip: 1,
     ref_frame: 3,
 };
@@ -45,8 +45,8 @@ pub fn position(random: &mut Random) -> Position {
     let (mi_cols, mi_rows) = (mi_count(random), mi_count(random));
     Position {
         pass,
-        row: superblock(random, mi_rows),
-        col: superblock(random, mi_cols),
+        mi_row: superblock(random, mi_rows),
+        mi_col: superblock(random, mi_cols),
         edge: random.between(0, (16 >> sub) - 1) as usize,
         i: random.between(0, (64 >> along) - 1) as usize,
         sub_x,
@@ -54,7 +54,7 @@ pub fn position(random: &mut Random) -> Position {
         mi_cols,
         mi_rows,
         mi_size: random.between(0, 12) as u8,
-        tx_sz: random.between(0, 3) as u8,
+        tx_size: random.between(0, 3) as u8,
         skip: random.flag().into(),
         ref_frame: reference(random),
     }

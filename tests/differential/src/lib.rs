@@ -9,6 +9,7 @@ pub mod passes;
 pub mod positions;
 pub mod quiet;
 pub mod random;
+pub mod returned;
 pub mod rows;
 #[cfg(oracle)]
 pub mod rust;

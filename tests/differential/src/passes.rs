@@ -9,8 +9,9 @@ mod windows;
 pub(crate) mod words;
 
 use crate::random::Random;
+use crate::returned::Returned;
 use crate::rows::superblock;
-use springspade::{Frame, Returned, Superblock, Window, pass_returned};
+use springspade::{Frame, Superblock, Window, pass};
 
 #[derive(Debug, Clone, PartialEq, Eq)]
 pub struct Pass {
@@ -40,8 +41,8 @@ impl Pass {
     /// A random superblock, plane and window over the cells of a superblock row.
     pub fn over(random: &mut Random, frame: Frame, row: usize, cells: Vec<u32>) -> Pass {
         let at = Superblock {
-            row,
-            col: superblock(random, frame.mi_cols),
+            mi_row: row,
+            mi_col: superblock(random, frame.mi_cols),
             plane: random.between(0, 2) as u8,
             pass: random.flag().into(),
         };
@@ -51,7 +52,7 @@ impl Pass {
 
     /// Random cells with level, and random samples.
     pub fn accepted(random: &mut Random, frame: Frame, at: Superblock, window: Window) -> Pass {
-        let cells = words::random(random, &frame, at.row, 0);
+        let cells = words::random(random, &frame, at.mi_row, 0);
         Pass::lent(random, frame, at, cells, window)
     }
 
@@ -63,15 +64,15 @@ impl Pass {
         cells: Vec<u32>,
         window: Window,
     ) -> Pass {
-        let level = words::level(random.one_of(&cells[..row_cells(&frame, at.row)]));
+        let level = words::level(random.one_of(&cells[..row_cells(&frame, at.mi_row)]));
         let strength = springspade::strength(level, frame.sharpness).unwrap();
-        let samples = samples::random(random, &window, frame.depth, strength);
+        let samples = samples::random(random, &window, frame.bit_depth, strength);
         Pass { frame, at, cells, window, samples }
     }
 
     /// How many cells the superblock row has.
     pub fn row_cells(&self) -> usize {
-        row_cells(&self.frame, self.at.row)
+        row_cells(&self.frame, self.at.mi_row)
     }
 
     /// The subsampling that holds in the plane.
@@ -82,7 +83,7 @@ impl Pass {
     /// What ours returns, and the lent samples after it. Those beside them are left.
     pub fn ours(&self) -> (Returned, Vec<u16>) {
         let Pass { frame, at, cells, window, .. } = self;
-        self.guarded(|samples| pass_returned(samples, window, cells, frame, at))
+        self.guarded(|samples| pass(samples, window, cells, frame, at).into())
     }
 
     /// Runs on a copy of what is lent, and gives its samples after it. Those beside them must be left.
@@ -125,7 +126,7 @@ pub fn subsampling(frame: &Frame, plane: u8) -> (u8, u8) {
 fn frame(random: &mut Random) -> Frame {
     Frame {
         sharpness: random.one_of(&[0, 0, 0, 1, 2, 3, 4, 5, 6, 7]),
-        depth: random.one_of(&[8, 10, 12]),
+        bit_depth: random.one_of(&[8, 10, 12]),
         sub_x: random.flag().into(),
         sub_y: random.flag().into(),
         // A row as long as it can be takes a thousand times as long as others.

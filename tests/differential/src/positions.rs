@@ -25,7 +25,7 @@ pub fn decided(pass: &Pass) -> Vec<Position> {
 }
 
 fn position(pass: &Pass, edge: usize, i: usize) -> Option<Position> {
-    let Superblock { row, col, plane, .. } = pass.at;
+    let Superblock { mi_row: row, mi_col: col, plane, .. } = pass.at;
     let (mi_cols, mi_rows) = (pass.frame.mi_cols, pass.frame.mi_rows);
     let (sub_x, sub_y) = pass.subsampling();
     let vertical = pass.at.pass == 0;
@@ -98,7 +98,7 @@ pub fn step(pass: &Pass, samples: &mut [u16], at: &Position) {
     }
     let mut line = read(pass, samples, at);
     let strength = springspade::strength(at.cell.level, pass.frame.sharpness).unwrap();
-    springspade::line(&mut line, pass.frame.depth, at.size, strength).unwrap();
+    springspade::line(&mut line, pass.frame.bit_depth, at.size, strength).unwrap();
     for (place, sample) in taps(pass, at).into_iter().zip(line) {
         if is_inside(&pass.window, place) {
             let (x, row) = (place.0 as usize, place.1 as usize - pass.window.y_origin);

@@ -1,7 +1,8 @@
 //! Arguments of a row: mode info of its cells, random ones among them.
 
 use crate::random::Random;
-use springspade::{Frame, ModeInfo, Returned, row_returned};
+use crate::returned::Returned;
+use springspade::{Frame, ModeInfo, row};
 use std::iter;
 
 /// The mode info of one cell.
@@ -112,6 +113,17 @@ impl Extend<Block> for Blocks {
 }
 
 impl Blocks {
+    pub fn info(&self) -> ModeInfo<'_> {
+        ModeInfo {
+            mi_sizes: &self.mi_sizes,
+            tx_sizes: &self.tx_sizes,
+            skips: &self.skips,
+            ref_frames: &self.ref_frames,
+            y_modes: &self.y_modes,
+            segment_ids: &self.segment_ids,
+        }
+    }
+
     pub fn at(&self, k: usize) -> Block {
         Block {
             mi_size: self.mi_sizes[k],
@@ -129,7 +141,7 @@ impl Row {
     pub fn random(random: &mut Random) -> Row {
         let frame = Frame {
             sharpness: random.between(0, 7) as u8,
-            depth: random.one_of(&[8, 10, 12]),
+            bit_depth: random.one_of(&[8, 10, 12]),
             sub_x: random.flag().into(),
             sub_y: random.flag().into(),
             mi_cols: mi_count(random),
@@ -142,9 +154,29 @@ impl Row {
         row
     }
 
+    /// A random row of few cells; most have a level.
+    pub fn small(random: &mut Random) -> Row {
+        let mut row = Row::random(random);
+        row.frame.mi_cols = row.frame.mi_cols.min(24);
+        row.base = superblock(random, row.frame.mi_rows);
+        let levels = [(); 3].map(|()| random.between(0, 63) as u8);
+        row.levels = [(); 64].map(|()| random.one_of(&levels));
+        let absent = random.between(0, 3) == 0;
+        let block = |_| {
+            let block = Block::random(random);
+            if absent && random.between(0, 15) == 0 {
+                return block;
+            }
+            let (ref_frame, segment_id) = (random.between(0, 3) as i32, random.between(0, 7) as u8);
+            Block { ref_frame, segment_id, ..block }
+        };
+        row.blocks = (0..row.cells()).map(block).collect();
+        row
+    }
+
     /// A row whose numbers are the largest that are accepted, its lists as long as its cells.
     pub fn largest(mi_cols: usize, mi_rows: usize, base: usize) -> Row {
-        let frame = Frame { sharpness: 7, depth: 12, sub_x: 1, sub_y: 1, mi_cols, mi_rows };
+        let frame = Frame { sharpness: 7, bit_depth: 12, sub_x: 1, sub_y: 1, mi_cols, mi_rows };
         let mut row = Row { frame, base, levels: [63; 64], blocks: Blocks::default() };
         row.blocks.extend(iter::repeat_n(LARGEST, row.cells()));
         row
@@ -156,18 +188,11 @@ impl Row {
     }
 
     pub fn info(&self) -> ModeInfo<'_> {
-        ModeInfo {
-            mi_sizes: &self.blocks.mi_sizes,
-            tx_sizes: &self.blocks.tx_sizes,
-            skips: &self.blocks.skips,
-            ref_frames: &self.blocks.ref_frames,
-            y_modes: &self.blocks.y_modes,
-            segment_ids: &self.blocks.segment_ids,
-        }
+        self.blocks.info()
     }
 
     /// Ours, into these words.
     pub fn ours(&self, words: &mut [u32]) -> Returned {
-        row_returned(&self.info(), &self.levels, &self.frame, self.base, words)
+        row(&self.info(), &self.levels, &self.frame, self.base, words).into()
     }
 }

@@ -77,7 +77,7 @@ pub fn with_frame<T>(row: &Row, then: impl FnOnce(&SuperblockFilterFrame) -> T) 
         subsampling_x: row.frame.sub_x,
         subsampling_y: row.frame.sub_y,
         loop_filter_sharpness: row.frame.sharpness,
-        bit_depth: row.frame.depth,
+        bit_depth: row.frame.bit_depth,
         lvl_lookup: &lookup,
     })
 }
@@ -103,14 +103,14 @@ pub fn edge(at: &Position) -> EdgeFacts {
     let (mi_cols, mi_rows) = (at.mi_cols as u32, at.mi_rows as u32);
     let mi = SuperblockFilterMi {
         mi_size: at.mi_size,
-        tx_sz: at.tx_sz,
+        tx_sz: at.tx_size,
         skip: at.skip != 0,
         ref_frame_0: at.ref_frame,
     };
     let e = superblock_filter_edge(
         at.pass,
-        at.row as u32,
-        at.col as u32,
+        at.mi_row as u32,
+        at.mi_col as u32,
         at.edge as u32,
         at.i as u32,
         at.sub_x.into(),
@@ -120,7 +120,7 @@ pub fn edge(at: &Position) -> EdgeFacts {
         &mi,
     );
     let size = filter_size(
-        at.tx_sz,
+        at.tx_size,
         e.is_32_edge,
         at.pass,
         e.x,
@@ -140,6 +140,6 @@ pub fn edge(at: &Position) -> EdgeFacts {
         is_32_edge: e.is_32_edge,
         on_screen: e.on_screen,
         apply_filter: e.apply_filter,
-        size,
+        filter_size: size,
     }
 }

@@ -106,7 +106,7 @@ impl Sheet {
     pub fn frame(&self) -> Frame {
         Frame {
             sharpness: self.sharpness,
-            depth: 8 + 2 * self.depth_code,
+            bit_depth: 8 + 2 * self.depth_code,
             sub_x: self.sub_x,
             sub_y: self.sub_y,
             mi_cols: self.mi_cols,
@@ -119,8 +119,8 @@ impl Sheet {
         Pass {
             frame: self.frame(),
             at: Superblock {
-                row: 8 * self.row_over_8,
-                col: 8 * self.col_over_8,
+                mi_row: 8 * self.row_over_8,
+                mi_col: 8 * self.col_over_8,
                 plane: self.plane,
                 pass: self.pass,
             },

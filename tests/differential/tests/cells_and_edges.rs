@@ -2,6 +2,7 @@
 
 use differential::cells::{packed, unpacked};
 use differential::random::Random;
+use differential::returned::*;
 use differential::rows::{Block, Row};
 use springspade::*;
 use std::array;
@@ -41,7 +42,7 @@ fn chroma_transform(mi_size: u8, sub_x: u8, sub_y: u8) -> u8 {
 
 /// The cell of a block, in a frame of this one.
 fn cell_of(block: Block, levels: [u8; 64], sub_x: u8, sub_y: u8) -> Cell {
-    let frame = Frame { sharpness: 0, depth: 8, sub_x, sub_y, mi_cols: 1, mi_rows: 1 };
+    let frame = Frame { sharpness: 0, bit_depth: 8, sub_x, sub_y, mi_cols: 1, mi_rows: 1 };
     let row = Row { frame, base: 0, levels, blocks: [block].into_iter().collect() };
     let mut words = [0];
     assert_eq!(row.ours(&mut words), Returned { number: 0, place: 0 });
@@ -130,8 +131,8 @@ fn facts(at: &Position) -> EdgeFacts {
     // Edges are 4 plane samples apart.
     let (across, along) = (at.edge * 4, at.i);
     let (plane_x, plane_y) = if vertical { (across, along) } else { (along, across) };
-    let x = 8 * at.col + (plane_x << at.sub_x);
-    let y = 8 * at.row + (plane_y << at.sub_y);
+    let x = 8 * at.mi_col + (plane_x << at.sub_x);
+    let y = 8 * at.mi_row + (plane_y << at.sub_y);
     let (luma, sub) = if vertical { (x, at.sub_x) } else { (y, at.sub_y) };
     let (wide, high) = blocks(at.mi_size, sub);
     let is_block_edge = luma % (8 * if vertical { wide } else { high }) == 0;
@@ -141,11 +142,11 @@ fn facts(at: &Position) -> EdgeFacts {
         && at.mi_cols % 2 == 1
         && at.edge % 2 == 1
         && x / 8 >= at.mi_cols - 1;
-    let is_tx_edge = !last_column && at.edge.is_multiple_of(1 << at.tx_sz);
+    let is_tx_edge = !last_column && at.edge.is_multiple_of(1 << at.tx_size);
     let on_screen = luma != 0 && x < 8 * at.mi_cols && y < 8 * at.mi_rows;
     let skipped = at.skip == 1 && at.ref_frame > 0;
     let at_last = if vertical { x / 8 == at.mi_cols - 1 } else { y / 8 == at.mi_rows - 1 };
-    let size = match at.tx_sz {
+    let size = match at.tx_size {
         0 if at.edge == 0 || at.edge == 8 => 1,
         2.. if sub == 1 && at_last => 1,
         tx => tx.min(2),
@@ -161,7 +162,7 @@ fn facts(at: &Position) -> EdgeFacts {
         is_32_edge: at.edge == 0 || at.edge == 8,
         on_screen,
         apply_filter: on_screen && (is_block_edge || is_tx_edge && !skipped),
-        size,
+        filter_size: size,
     }
 }
 
@@ -179,8 +180,8 @@ fn compare(pass: u8, (sub_x, sub_y): (u8, u8), (mi_cols, mi_rows): (usize, usize
             for (tx_sz, skip, ref_frame) in (0..24).map(|k| (k % 4, k / 4 % 2, k as i32 / 8 - 1)) {
                 let at = Position {
                     pass,
-                    row,
-                    col,
+                    mi_row: row,
+                    mi_col: col,
                     edge,
                     i,
                     sub_x,
@@ -188,7 +189,7 @@ fn compare(pass: u8, (sub_x, sub_y): (u8, u8), (mi_cols, mi_rows): (usize, usize
                     mi_cols,
                     mi_rows,
                     mi_size,
-                    tx_sz,
+                    tx_size: tx_sz,
                     skip,
                     ref_frame,
                 };

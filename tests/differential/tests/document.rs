@@ -4,6 +4,7 @@ use differential::cases::*;
 use differential::edges::FIRST;
 use differential::lines::STEP;
 use differential::random::Random;
+use differential::returned::*;
 use springspade::*;
 
 const ACCEPTED: Returned = Returned { number: 0, place: 0 };
@@ -228,7 +229,7 @@ fn case_s_cells() {
         y_modes: &[0; 2],
         segment_ids: &[0; 2],
     };
-    let frame = Frame { sharpness: 0, depth: 8, sub_x: 0, sub_y: 0, mi_cols: 2, mi_rows: 1 };
+    let frame = Frame { sharpness: 0, bit_depth: 8, sub_x: 0, sub_y: 0, mi_cols: 2, mi_rows: 1 };
     let mut cells = [0; 2];
     assert_eq!(row(&info, &[32; 64], &frame, 0, &mut cells), Ok(()));
     assert_eq!(cells, [CASE_S; 2]);
@@ -252,10 +253,10 @@ fn case_s_word() {
 fn case_s_edges() {
     for number in 0..16 {
         for i in 0..64 {
-            let at = Position { edge: number, i, mi_cols: 2, mi_size: 3, tx_sz: 1, ..FIRST };
+            let at = Position { edge: number, i, mi_cols: 2, mi_size: 3, tx_size: 1, ..FIRST };
             let facts = edge(&at).unwrap();
             assert_eq!(facts.apply_filter, number == 2 && i < 8, "edge {number}, i {i}");
-            assert_eq!(facts.size, 1);
+            assert_eq!(facts.filter_size, 1);
         }
     }
 }

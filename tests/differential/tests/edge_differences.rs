@@ -26,13 +26,14 @@ fn behind_the_last_column() {
 /// "At the last column" and "last row" are the position's own, not the cell's that it reads.
 #[test]
 fn last_column_of_the_position() {
-    let own = Position { edge: 1, sub_x: 1, mi_cols: 2, tx_sz: 2, ..FIRST };
+    let own = Position { edge: 1, sub_x: 1, mi_cols: 2, tx_size: 2, ..FIRST };
     let column = facts(&own);
-    assert_eq!((column.x / 8, column.loop_col, column.size), (1, 0, 1));
+    assert_eq!((column.x / 8, column.loop_col, column.filter_size), (1, 0, 1));
     let row = facts(&Position { pass: 1, sub_x: 0, sub_y: 1, mi_cols: 1, mi_rows: 2, ..own });
-    assert_eq!((row.y / 8, row.loop_row, row.size), (1, 0, 1));
-    let wider = Position { edge: 5, sub_x: 1, sub_y: 1, mi_cols: 6, mi_rows: 2, tx_sz: 3, ..FIRST };
-    assert_eq!((facts(&wider).loop_col, facts(&wider).size), (4, 1));
+    assert_eq!((row.y / 8, row.loop_row, row.filter_size), (1, 0, 1));
+    let wider =
+        Position { edge: 5, sub_x: 1, sub_y: 1, mi_cols: 6, mi_rows: 2, tx_size: 3, ..FIRST };
+    assert_eq!((facts(&wider).loop_col, facts(&wider).filter_size), (4, 1));
 }
 
 /// Ours is refused; the Rust's facts are returned.
@@ -57,8 +58,8 @@ fn frame_size() {
 
 #[test]
 fn superblock_1() {
-    assert_eq!(refused(&Position { row: 1, ..FIRST }, 5).y, 8);
-    assert_eq!(refused(&Position { col: 1, ..FIRST }, 10).x, 8);
+    assert_eq!(refused(&Position { mi_row: 1, ..FIRST }, 5).y, 8);
+    assert_eq!(refused(&Position { mi_col: 1, ..FIRST }, 10).x, 8);
 }
 
 #[test]
@@ -70,9 +71,9 @@ fn size_13() {
 
 #[test]
 fn transform_4() {
-    let rust = refused(&Position { tx_sz: 4, ..FIRST }, 8);
-    assert_eq!((rust.is_tx_edge, rust.size), (true, 2));
-    assert!(!refused(&Position { edge: 8, tx_sz: 4, ..FIRST }, 8).is_tx_edge);
+    let rust = refused(&Position { tx_size: 4, ..FIRST }, 8);
+    assert_eq!((rust.is_tx_edge, rust.filter_size), (true, 2));
+    assert!(!refused(&Position { edge: 8, tx_size: 4, ..FIRST }, 8).is_tx_edge);
 }
 
 /// As pass 1, but y 0 is on screen, and the last column and the last row are as the others.
@@ -80,12 +81,12 @@ fn transform_4() {
 fn pass_2() {
     let top = FIRST;
     let column = Position { edge: 1, sub_x: 1, ..FIRST };
-    let row = Position { sub_y: 1, tx_sz: 2, ..FIRST };
+    let row = Position { sub_y: 1, tx_size: 2, ..FIRST };
     let horizontal = |at: Position| facts(&Position { pass: 1, ..at });
     let pass_2 = |at: Position| refused(&Position { pass: 2, ..at }, 9);
     assert_eq!((horizontal(top).apply_filter, pass_2(top).apply_filter), (false, true));
     assert_eq!((horizontal(column).is_tx_edge, pass_2(column).is_tx_edge), (false, true));
-    assert_eq!((horizontal(row).size, pass_2(row).size), (1, 2));
+    assert_eq!((horizontal(row).filter_size, pass_2(row).filter_size), (1, 2));
     assert_eq!((pass_2(column).x, pass_2(column).y), (0, 4));
 }
 

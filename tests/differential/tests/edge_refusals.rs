@@ -1,7 +1,8 @@
 //! Refusals of edge facts: what just passes, what just does not, and which of several comes first.
 
 use differential::edges::LAST;
-use springspade::{EdgeFacts, Position, Refused, Returned, edge, edge_returned};
+use differential::returned::{Returned, edge_returned};
+use springspade::{EdgeFacts, Position, Refused, edge};
 
 fn accepted(at: &Position) {
     let (returned, facts) = edge_returned(at);
@@ -38,7 +39,7 @@ const LARGE: [usize; 3] = [1 << 32, (1 << 32) + 8, usize::MAX - 7];
 
 #[test]
 fn frame_sizes() {
-    let first = Position { row: 0, col: 0, ..LAST };
+    let first = Position { mi_row: 0, mi_col: 0, ..LAST };
     for mi in [1, 2, 8191, 8192] {
         accepted(&Position { mi_cols: mi, ..first });
         accepted(&Position { mi_rows: mi, ..first });
@@ -55,15 +56,15 @@ fn superblocks() {
     for mi in 1..=40 {
         for at in 0..=48 {
             let starts = at % 8 == 0 && at < mi;
-            passes(&Position { row: at, mi_rows: mi, ..LAST }, starts, 5);
-            passes(&Position { col: at, mi_cols: mi, ..LAST }, starts, 10);
+            passes(&Position { mi_row: at, mi_rows: mi, ..LAST }, starts, 5);
+            passes(&Position { mi_col: at, mi_cols: mi, ..LAST }, starts, 10);
         }
     }
-    let largest = Position { row: 8184, col: 8184, mi_cols: 8192, mi_rows: 8192, ..LAST };
+    let largest = Position { mi_row: 8184, mi_col: 8184, mi_cols: 8192, mi_rows: 8192, ..LAST };
     accepted(&largest);
     for at in [8191, 8192, usize::MAX].into_iter().chain(LARGE) {
-        refused(&Position { row: at, ..largest }, 5);
-        refused(&Position { col: at, ..largest }, 10);
+        refused(&Position { mi_row: at, ..largest }, 5);
+        refused(&Position { mi_col: at, ..largest }, 10);
     }
 }
 
@@ -71,7 +72,7 @@ fn superblocks() {
 fn blocks() {
     for number in 0..=255 {
         passes(&Position { mi_size: number, ..LAST }, number <= 12, 8);
-        passes(&Position { tx_sz: number, ..LAST }, number <= 3, 8);
+        passes(&Position { tx_size: number, ..LAST }, number <= 3, 8);
         passes(&Position { skip: number, ..LAST }, number <= 1, 8);
         accepted(&Position { ref_frame: number.into(), ..LAST });
     }
@@ -122,10 +123,10 @@ fn faults() -> [Vec<fn(&mut Position)>; 7] {
         vec![|at| at.mi_cols = 0, |at| at.mi_rows = 0, |at| at.mi_cols = 8193, |at| {
             at.mi_rows = 8193
         }],
-        vec![|at| at.row = 1, |at| at.row = 16],
-        vec![|at| at.mi_size = 13, |at| at.tx_sz = 4, |at| at.skip = 2],
+        vec![|at| at.mi_row = 1, |at| at.mi_row = 16],
+        vec![|at| at.mi_size = 13, |at| at.tx_size = 4, |at| at.skip = 2],
         vec![|at| at.pass = 2],
-        vec![|at| at.col = 1, |at| at.col = 24],
+        vec![|at| at.mi_col = 1, |at| at.mi_col = 24],
         vec![|at| at.edge = 16, |at| at.i = 64],
     ]
 }

@@ -1,8 +1,9 @@
 //! Ours against the Rust's edge facts and filter size.
 #![cfg(oracle)]
 
+use differential::returned::{Returned, edge_returned};
 use differential::{edges, random::Random, rust, say};
-use springspade::{EdgeFacts, Position, Returned, edge_returned};
+use springspade::{EdgeFacts, Position};
 
 const NAMES: [&str; 10] = [
     "block edge",
@@ -62,10 +63,10 @@ fn holding(at: &Position, facts: &EdgeFacts) -> [bool; NAMES.len()] {
         facts.is_32_edge,
         facts.on_screen,
         facts.apply_filter,
-        facts.size == 0,
-        facts.size == 1,
-        facts.size == 2,
-        !facts.is_tx_edge && at.edge.is_multiple_of(1 << at.tx_sz),
-        facts.size == 1 && at.tx_sz >= 2,
+        facts.filter_size == 0,
+        facts.filter_size == 1,
+        facts.filter_size == 2,
+        !facts.is_tx_edge && at.edge.is_multiple_of(1 << at.tx_size),
+        facts.filter_size == 1 && at.tx_size >= 2,
     ]
 }

@@ -1,10 +1,11 @@
 //! Ours against the Rust.
 #![cfg(oracle)]
 
+use differential::returned::{Returned, level_table_into};
 use differential::{cases::Case, random::Random, rust, say};
 use oracle::adaptive_filter_strength::mode_to_mode_type;
 use oracle::superblock_loop_filter::hook_strength;
-use springspade::{Returned, Strength, level_table, level_table_into, mode_type, strength};
+use springspade::{Strength, level_table, mode_type, strength};
 
 #[test]
 fn strengths_equal() {

@@ -88,7 +88,7 @@ fn edges_equal() {
                 let (at, cell) = frame.position(plane, pass, x, y);
                 let facts = edge(&at).unwrap();
                 let is_filtered = facts.apply_filter && cell.level > 0;
-                let ours = if is_filtered { facts.size * 64 + cell.level } else { 0 };
+                let ours = if is_filtered { facts.filter_size * 64 + cell.level } else { 0 };
                 assert_eq!(ours, call, "{}, plane {plane}, {at:?}", frame.name);
                 positions += 1;
                 filtered += usize::from(is_filtered);

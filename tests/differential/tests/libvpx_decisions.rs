@@ -19,11 +19,11 @@ fn sheet(frame: &Frame, words: &[u32], at: &Superblock) -> Sheet {
         sub_x: frame.sub_x,
         sub_y: frame.sub_y,
         sharpness: frame.sharpness,
-        depth_code: (frame.depth - 8) / 2,
+        depth_code: (frame.bit_depth - 8) / 2,
         plane: at.plane,
         pass: at.pass,
-        row_over_8: at.row / 8,
-        col_over_8: at.col / 8,
+        row_over_8: at.mi_row / 8,
+        col_over_8: at.mi_col / 8,
         spare: 0,
         words: words.to_vec(),
     }
@@ -31,7 +31,7 @@ fn sheet(frame: &Frame, words: &[u32], at: &Superblock) -> Sheet {
 
 /// The runs of a sheet's text, which is that of a pass that is accepted.
 fn runs(text: &str, at: &Superblock) -> Vec<Run> {
-    let Superblock { row, col, plane, pass } = at;
+    let Superblock { mi_row: row, mi_col: col, plane, pass } = at;
     let mut lines = text.lines();
     let head = format!("pass {pass} plane {plane} row {row} col {col}");
     assert_eq!(lines.next(), Some(head.as_str()), "{text}");
@@ -46,7 +46,7 @@ fn runs(text: &str, at: &Superblock) -> Vec<Run> {
 /// Adds the positions of a run. None may be there already.
 fn add(filtered: &mut Filtered, frame: &Frame, at: &Superblock, run: &Run) {
     let (sub_x, sub_y) = subsampling(frame, at.plane);
-    let (left, top) = ((8 * at.col) >> sub_x, (8 * at.row) >> sub_y);
+    let (left, top) = ((8 * at.mi_col) >> sub_x, (8 * at.mi_row) >> sub_y);
     for i in run.first..run.first + run.count {
         let across = 4 * run.edge;
         let (right, down) = if at.pass == 0 { (across, i) } else { (i, across) };

@@ -20,7 +20,7 @@ const KINDS: [(u8, u8, u8, u8); 12] = [
 ];
 
 fn kind(frame: &libvpx::Frame) -> (u8, u8, u8, u8) {
-    (frame.profile, frame.frame.depth, frame.frame.sub_x, frame.frame.sub_y)
+    (frame.profile, frame.frame.bit_depth, frame.frame.sub_x, frame.frame.sub_y)
 }
 
 /// How many positions are filtered, by plane and pass.

@@ -3,9 +3,10 @@
 
 use differential::passes::Pass;
 use differential::quiet::panic_of;
+use differential::returned::Returned;
 use differential::rust;
 use oracle::superblock_loop_filter::{HookCell, HookRow};
-use springspade::{Frame, Returned, Superblock, Window};
+use springspade::{Frame, Superblock, Window};
 
 /// The cell of an 8 by 8 block in the Rust's form, transform 1, level 32.
 const CELL: HookCell = ([[7, 15], [7, 15]], 1, 1, false, 32);
@@ -17,8 +18,8 @@ const LEVELLESS: HookCell = ([[7, 15], [7, 15]], 1, 1, false, 255);
 fn two_cells() -> Pass {
     let samples: Vec<u16> = (0..16).map(|x| if x < 8 { 100 } else { 104 }).collect();
     Pass {
-        frame: Frame { sharpness: 0, depth: 8, sub_x: 0, sub_y: 0, mi_cols: 2, mi_rows: 1 },
-        at: Superblock { row: 0, col: 0, plane: 0, pass: 0 },
+        frame: Frame { sharpness: 0, bit_depth: 8, sub_x: 0, sub_y: 0, mi_cols: 2, mi_rows: 1 },
+        at: Superblock { mi_row: 0, mi_col: 0, plane: 0, pass: 0 },
         cells: vec![0x1156_0000; 2],
         window: Window { width: 16, height: 1, stride: 16, y_origin: 0 },
         samples,
@@ -33,7 +34,7 @@ fn with(change: impl FnOnce(&mut Pass)) -> Pass {
 
 /// The Rust's row of these cells, whatever the frame.
 fn row(pass: &Pass, cells: &[HookCell]) -> HookRow {
-    let Frame { sharpness, depth, sub_x, sub_y, mi_cols, mi_rows } = pass.frame;
+    let Frame { sharpness, bit_depth: depth, sub_x, sub_y, mi_cols, mi_rows } = pass.frame;
     let (mi_cols, mi_rows) = (mi_cols as u32, mi_rows as u32);
     HookRow::from_cells(cells, 0, mi_cols, mi_rows, sub_x, sub_y, depth, sharpness)
 }
@@ -66,7 +67,7 @@ fn sharpness_8() {
 
 #[test]
 fn depth_9() {
-    let after = refused(&with(|pass| pass.frame.depth = 9), 2, 0, 2).unwrap();
+    let after = refused(&with(|pass| pass.frame.bit_depth = 9), 2, 0, 2).unwrap();
     assert_eq!(after, FILTERED);
 }
 
@@ -90,11 +91,11 @@ fn frame_size() {
 /// As any row and column: of the second cell no edge is at x = 8, but the first.
 #[test]
 fn row_and_column() {
-    let below = with(|pass| pass.at.row = 1);
+    let below = with(|pass| pass.at.mi_row = 1);
     assert_eq!(refused(&below, 5, 0, 2).unwrap(), below.samples);
-    let second = with(|pass| pass.at.col = 1);
+    let second = with(|pass| pass.at.mi_col = 1);
     assert_eq!(refused(&second, 10, 0, 2).unwrap(), FILTERED);
-    let behind = with(|pass| pass.at.col = 2);
+    let behind = with(|pass| pass.at.mi_col = 2);
     assert_eq!(refused(&behind, 10, 0, 2).unwrap(), behind.samples);
 }
 

@@ -9,8 +9,9 @@ const CASE_S: u32 = 0x1156_0000;
 const LEVELLESS: u32 = 0x1150_0000;
 const TRANSFORM_2: u32 = 0x1196_0000;
 
-const FRAME: Frame = Frame { sharpness: 0, depth: 8, sub_x: 0, sub_y: 0, mi_cols: 2, mi_rows: 1 };
-const FIRST: Superblock = Superblock { row: 0, col: 0, plane: 0, pass: 0 };
+const FRAME: Frame =
+    Frame { sharpness: 0, bit_depth: 8, sub_x: 0, sub_y: 0, mi_cols: 2, mi_rows: 1 };
+const FIRST: Superblock = Superblock { mi_row: 0, mi_col: 0, plane: 0, pass: 0 };
 const WHOLE: Window = Window { width: 16, height: 8, stride: 16, y_origin: 0 };
 
 /// Left of x = 8 all samples are 100, from there on 104.

@@ -3,8 +3,8 @@
 use differential::passes::Pass;
 use differential::positions::{Position, decided, filtered, levelless, step};
 use differential::random::Random;
+use differential::returned::Returned;
 use differential::say;
-use springspade::Returned;
 use std::collections::BTreeMap;
 
 const PASSES: usize = 2_000;

@@ -24,7 +24,7 @@ fn sharpness() {
 #[test]
 fn depth() {
     for depth in 0..=255 {
-        let pass = with(|pass| pass.frame.depth = depth);
+        let pass = with(|pass| pass.frame.bit_depth = depth);
         if matches!(depth, 8 | 10 | 12) { accepted(&pass) } else { refused(&pass, 2, 0) }
     }
 }
@@ -50,7 +50,7 @@ fn subsampling() {
 /// A pass in a frame of so many cells, over a window of 16 by 12 samples.
 fn in_frame(mi_cols: usize, mi_rows: usize, row: usize, col: usize) -> Pass {
     let frame = Frame { mi_cols, mi_rows, ..small().frame };
-    let at = Superblock { row, col, plane: 1, pass: 1 };
+    let at = Superblock { mi_row: row, mi_col: col, plane: 1, pass: 1 };
     let window = Window { width: 16, height: 12, stride: 16, y_origin: 4 * row };
     Pass::accepted(&mut Random(29), frame, at, window)
 }
@@ -83,14 +83,14 @@ fn rows_and_columns() {
                 accepted(&in_frame(3, mi, first, 0));
                 accepted(&in_frame(mi, 3, 0, first));
             } else {
-                refused(&Pass { at: Superblock { row: first, ..rows.at }, ..rows }, 5, 0);
-                refused(&Pass { at: Superblock { col: first, ..columns.at }, ..columns }, 10, 0);
+                refused(&Pass { at: Superblock { mi_row: first, ..rows.at }, ..rows }, 5, 0);
+                refused(&Pass { at: Superblock { mi_col: first, ..columns.at }, ..columns }, 10, 0);
             }
         }
     }
     for first in [8191, 8192, usize::MAX].into_iter().chain(LARGE) {
-        refused(&with(|pass| pass.at.row = first), 5, 0);
-        refused(&with(|pass| pass.at.col = first), 10, 0);
+        refused(&with(|pass| pass.at.mi_row = first), 5, 0);
+        refused(&with(|pass| pass.at.mi_col = first), 10, 0);
     }
 }
 
@@ -194,7 +194,7 @@ fn cells_without_level() {
         for k in 0..48 {
             let frame = Frame { sub_x: k & 1, sub_y: k >> 1 & 1, ..small().frame };
             let at = Superblock { plane: k >> 2 & 3, pass: k >> 4 & 1, ..small().at };
-            let at = Superblock { plane: at.plane % 3, col: random.one_of(&[0, 8]), ..at };
+            let at = Superblock { plane: at.plane % 3, mi_col: random.one_of(&[0, 8]), ..at };
             levelless_cells(&Pass::accepted(&mut random, frame, at, window));
         }
     }
@@ -218,7 +218,7 @@ const NUMBERS: [u32; 12] = [1, 2, 3, 4, 5, 7, 9, 10, 11, 12, 13, 14];
 fn faults() -> [Vec<fn(&mut Pass)>; 12] {
     [
         vec![|pass| pass.frame.sharpness = 8],
-        vec![|pass| pass.frame.depth = 9, |pass| pass.frame.depth = 0],
+        vec![|pass| pass.frame.bit_depth = 9, |pass| pass.frame.bit_depth = 0],
         vec![|pass| pass.frame.sub_x = 2, |pass| pass.frame.sub_y = 2],
         vec![
             |pass| pass.frame.mi_cols = 0,
@@ -226,10 +226,10 @@ fn faults() -> [Vec<fn(&mut Pass)>; 12] {
             |pass| pass.frame.mi_cols = 8193,
             |pass| pass.frame.mi_rows = 8193,
         ],
-        vec![|pass| pass.at.row = 9, |pass| pass.at.row = 16],
+        vec![|pass| pass.at.mi_row = 9, |pass| pass.at.mi_row = 16],
         vec![|pass| pass.cells.truncate(21), |pass| pass.cells.clear()],
         vec![|pass| pass.at.plane = 3, |pass| pass.at.pass = 2],
-        vec![|pass| pass.at.col = 9, |pass| pass.at.col = 16],
+        vec![|pass| pass.at.mi_col = 9, |pass| pass.at.mi_col = 16],
         vec![|pass| pass.cells[5] |= 1, |pass| pass.cells[5] = 0x1100_1000],
         vec![
             |pass| pass.window.width = 0,

@@ -1,7 +1,8 @@
 //! Ours over the records of passes.bin, read by the layout that vectors.rs gives.
 
 use differential::passes::Pass;
-use springspade::{Frame, Returned, Superblock, Window};
+use differential::returned::Returned;
+use springspade::{Frame, Superblock, Window};
 use std::collections::BTreeMap;
 
 const RECORD: usize = 2728;
@@ -27,8 +28,8 @@ fn read(record: &[u8]) -> (Pass, Returned, Vec<u16>) {
     };
     let cells = numbers(record, 40, 4, cells.into());
     let pass = Pass {
-        frame: Frame { sharpness, depth, sub_x, sub_y, mi_cols, mi_rows },
-        at: Superblock { row, col, plane, pass },
+        frame: Frame { sharpness, bit_depth: depth, sub_x, sub_y, mi_cols, mi_rows },
+        at: Superblock { mi_row: row, mi_col: col, plane, pass },
         cells: cells.iter().map(|&word| word as u32).collect(),
         window: Window { width, height, stride, y_origin },
         samples: samples(record, 168, lent),

@@ -106,7 +106,7 @@ fn samples() {
     for (depth, top) in [(8, 255), (10, 1023), (12, 4095)] {
         let one = |k: usize, sample: u16| {
             let mut pass = good.clone();
-            pass.frame.depth = depth;
+            pass.frame.bit_depth = depth;
             pass.samples[k] = sample;
             pass
         };
@@ -148,16 +148,17 @@ fn places_of_samples() {
 #[test]
 fn limits() {
     let mut random = Random(32);
-    let frame = Frame { sharpness: 0, depth: 8, sub_x: 0, sub_y: 0, mi_cols: 8192, mi_rows: 8192 };
+    let frame =
+        Frame { sharpness: 0, bit_depth: 8, sub_x: 0, sub_y: 0, mi_cols: 8192, mi_rows: 8192 };
     let narrow = Frame { mi_cols: 2, ..frame };
-    let last = Superblock { row: 8184, col: 8184, plane: 0, pass: 0 };
-    let left = Superblock { col: 0, ..last };
+    let last = Superblock { mi_row: 8184, mi_col: 8184, plane: 0, pass: 0 };
+    let left = Superblock { mi_col: 0, ..last };
     let window = |width, height, stride| {
         let y_origin = 65_536 - height;
         Window { width, height, stride, y_origin }
     };
     let one = Window { width: 1, height: 1, stride: 1, y_origin: 0 };
-    let first = Superblock { row: 0, col: 0, ..last };
+    let first = Superblock { mi_row: 0, mi_col: 0, ..last };
     for pass in [0, 1] {
         for (frame, at, window) in [
             (frame, last, window(65_536, 72, 65_536)),
@@ -171,7 +172,7 @@ fn limits() {
             (Frame { mi_cols: 1, mi_rows: 1, ..frame }, first, one),
         ] {
             for depth in [8, 12] {
-                let (frame, at) = (Frame { depth, ..frame }, Superblock { pass, ..at });
+                let (frame, at) = (Frame { bit_depth: depth, ..frame }, Superblock { pass, ..at });
                 accepted(&Pass::accepted(&mut random, frame, at, window));
             }
         }

@@ -4,9 +4,9 @@
 use differential::passes::Pass;
 use differential::positions::levelless;
 use differential::random::Random;
-use differential::rows::{Block, Row, superblock};
+use differential::returned::Returned;
+use differential::rows::Row;
 use differential::{rust, say};
-use springspade::Returned;
 use std::array;
 
 /// Passes accepted, of them with a changed sample; passes refused for a cell without level.
@@ -68,31 +68,11 @@ fn passes_equal() {
     say(&format!("{accepted}; {refused} are refused where it panics"));
 }
 
-/// A random row of few cells; most have a level.
-fn row(random: &mut Random) -> Row {
-    let mut row = Row::random(random);
-    row.frame.mi_cols = row.frame.mi_cols.min(24);
-    row.base = superblock(random, row.frame.mi_rows);
-    let levels = [(); 3].map(|()| random.between(0, 63) as u8);
-    row.levels = [(); 64].map(|()| random.one_of(&levels));
-    let absent = random.between(0, 3) == 0;
-    let block = |_| {
-        let block = Block::random(random);
-        if absent && random.between(0, 15) == 0 {
-            return block;
-        }
-        let (ref_frame, segment_id) = (random.between(0, 3) as i32, random.between(0, 7) as u8);
-        Block { ref_frame, segment_id, ..block }
-    };
-    row.blocks = (0..row.cells()).map(block).collect();
-    row
-}
-
 /// Our row and pass against the Rust's other way into the pass, which reads mode info itself.
 #[test]
 fn passes_of_rows_equal() {
     let [accepted, changed, refused] = compare_all(count() / 2, 22, |random| {
-        let row = row(random);
+        let row = Row::small(random);
         let mut words = vec![0; row.cells()];
         row.ours(&mut words).accepted().unwrap();
         let pass = Pass::over(random, row.frame, row.base, words);

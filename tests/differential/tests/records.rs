@@ -3,8 +3,9 @@
 use differential::passes::Pass;
 use differential::passes::small::{small, with};
 use differential::random::Random;
+use differential::returned::Returned;
 use differential::say;
-use springspade::{CellRecord, Returned, Window};
+use springspade::{CellRecord, Window};
 
 const PASSES: usize = 12_000;
 
@@ -29,13 +30,13 @@ fn window_that_holds_its_samples() {
 fn window_refusals() {
     let refused = [
         with(|pass| pass.frame.sharpness = 8),
-        with(|pass| pass.frame.depth = 9),
+        with(|pass| pass.frame.bit_depth = 9),
         with(|pass| pass.frame.sub_y = 2),
         with(|pass| pass.frame.mi_cols = 8193),
-        with(|pass| pass.at.row = 1),
+        with(|pass| pass.at.mi_row = 1),
         with(|pass| pass.cells.clear()),
         with(|pass| pass.at.plane = 3),
-        with(|pass| pass.at.col = 1),
+        with(|pass| pass.at.mi_col = 1),
         with(|pass| pass.cells[0] |= 1),
         with(|pass| pass.window.stride = pass.window.width - 1),
         with(|pass| pass.samples[0] = 4096),

@@ -9,7 +9,7 @@ use std::panic::{AssertUnwindSafe, catch_unwind};
 
 /// A frame of so many blocks of 8 by 8, level 1.
 fn frame_of(mi_cols: usize, mi_rows: usize) -> Row {
-    let frame = Frame { sharpness: 0, depth: 8, sub_x: 0, sub_y: 0, mi_cols, mi_rows };
+    let frame = Frame { sharpness: 0, bit_depth: 8, sub_x: 0, sub_y: 0, mi_cols, mi_rows };
     let block = Block { mi_size: 3, tx_size: 1, skip: 0, ref_frame: 0, y_mode: 0, segment_id: 0 };
     let blocks = (0..mi_cols * mi_rows).map(|_| block).collect();
     Row { frame, base: 0, levels: [1; 64], blocks }
@@ -57,7 +57,7 @@ fn sharpness_8() {
 
 #[test]
 fn depth_9() {
-    assert_eq!(refused(&with(|row| row.frame.depth = 9), 2), [CELL]);
+    assert_eq!(refused(&with(|row| row.frame.bit_depth = 9), 2), [CELL]);
 }
 
 #[test]

@@ -1,9 +1,10 @@
 //! The row into a list of records: those of the words that the plain row makes, and of the Rust's cells.
 
 use differential::random::Random;
+use differential::returned::Returned;
 use differential::rows::Row;
 use differential::say;
-use springspade::{CellRecord, Returned, cell, row_records_returned};
+use springspade::{CellRecord, cell, row_records};
 
 const ROWS: usize = 2_000;
 
@@ -24,7 +25,8 @@ const BEFORE: CellRecord = CellRecord {
 fn run(row: &Row, length: usize) -> (Returned, Vec<CellRecord>) {
     let mut records = vec![BEFORE; length + 2];
     let lent = &mut records[1..=length];
-    let returned = row_records_returned(&row.info(), &row.levels, &row.frame, row.base, lent);
+    let returned: Returned =
+        row_records(&row.info(), &row.levels, &row.frame, row.base, lent).into();
     assert_eq!((records[0], records[length + 1]), (BEFORE, BEFORE), "{:?}", row.frame);
     (returned, records[1..=length].to_vec())
 }
@@ -78,7 +80,7 @@ fn largest_row() {
 fn refusals() {
     let changes: [(fn(&mut Row), u32, u32); 9] = [
         (|row| row.frame.sharpness = 8, 1, 0),
-        (|row| row.frame.depth = 9, 2, 0),
+        (|row| row.frame.bit_depth = 9, 2, 0),
         (|row| row.frame.sub_x = 2, 3, 0),
         (|row| row.frame.mi_cols = 0, 4, 0),
         (|row| row.base = 4, 5, 0),

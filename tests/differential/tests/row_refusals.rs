@@ -1,7 +1,7 @@
 //! Refusals of the row: what just passes, what just does not, and which of several comes first.
 
+use differential::returned::Returned;
 use differential::rows::{BAD, Block, Row};
-use springspade::Returned;
 
 /// A word that no row makes.
 const BEFORE: u32 = 0xffff_ffff;
@@ -56,7 +56,7 @@ fn sharpness() {
 #[test]
 fn depth() {
     for depth in 0..=255 {
-        let row = with(|row| row.frame.depth = depth);
+        let row = with(|row| row.frame.bit_depth = depth);
         if matches!(depth, 8 | 10 | 12) { accepted(&row) } else { refused(&row, 2, 0) }
     }
 }
@@ -220,7 +220,7 @@ fn other_mode_info() {
 fn faults() -> [Vec<fn(&mut Row)>; 8] {
     [
         vec![|row| row.frame.sharpness = 8],
-        vec![|row| row.frame.depth = 9],
+        vec![|row| row.frame.bit_depth = 9],
         vec![|row| row.frame.sub_x = 2, |row| row.frame.sub_y = 2],
         vec![
             |row| row.frame.mi_cols = 0,

@@ -2,9 +2,10 @@
 #![cfg(oracle)]
 
 use differential::cells::unpacked;
+use differential::returned::Returned;
 use differential::rows::{BAD, Block, MODES, REFERENCES, Row, SEGMENTS};
 use differential::{random::Random, rust, say};
-use springspade::{Cell, Frame, Returned, cell};
+use springspade::{Cell, Frame, cell};
 use std::array;
 
 /// A word that no row makes.
@@ -35,7 +36,7 @@ fn compare_all(blocks: &[Block]) -> usize {
     let tables: [[u8; 64]; 2] = [array::from_fn(|k| k as u8), array::from_fn(|k| 63 - k as u8)];
     for (sub_x, sub_y) in [(0, 0), (0, 1), (1, 0), (1, 1)] {
         let mi_cols = blocks.len() / 8;
-        let frame = Frame { sharpness: 0, depth: 8, sub_x, sub_y, mi_cols, mi_rows: 8 };
+        let frame = Frame { sharpness: 0, bit_depth: 8, sub_x, sub_y, mi_cols, mi_rows: 8 };
         for levels in tables {
             let blocks = blocks.iter().copied().collect();
             compare(&Row { frame, base: 0, levels, blocks }, 1);

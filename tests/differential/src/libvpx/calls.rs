@@ -27,8 +27,8 @@ impl Frame {
         let cell = &self.cells[loop_row * mi_cols + loop_col];
         let position = Position {
             pass,
-            row: y / high * 8,
-            col: x / wide * 8,
+            mi_row: y / high * 8,
+            mi_col: x / wide * 8,
             edge,
             i,
             sub_x,
@@ -36,7 +36,7 @@ impl Frame {
             mi_cols,
             mi_rows,
             mi_size: cell.block.mi_size,
-            tx_sz: if plane == 0 { cell.block.tx_size } else { cell.uvtx },
+            tx_size: if plane == 0 { cell.block.tx_size } else { cell.uvtx },
             skip: cell.block.skip,
             ref_frame: cell.block.ref_frame,
         };

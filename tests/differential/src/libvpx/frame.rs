@@ -65,7 +65,7 @@ impl Frame {
         }
         let frame = springspade::Frame {
             sharpness: field(9).try_into().unwrap(),
-            depth: field(1).try_into().unwrap(),
+            bit_depth: field(1).try_into().unwrap(),
             sub_x: field(2).try_into().unwrap(),
             sub_y: field(3).try_into().unwrap(),
             mi_cols: field(4).try_into().unwrap(),

@@ -1,9 +1,13 @@
 //! A whole frame through row and pass, ours and the Rust's, from its own settings and mode info on.
 
 use super::{Frame, plane_size};
-use crate::passes::subsampling;
-use crate::rows::Row;
-use springspade::{Superblock, Window, level_table, pass};
+use crate::rows::{Blocks, Row};
+use recipe::filter_frame;
+use springspade::{Superblock, level_table};
+
+#[allow(dead_code, reason = "the recipe is a program")]
+#[path = "../../../../rust/springspade/examples/frame.rs"]
+mod recipe;
 
 pub type Planes = [Vec<u16>; 3];
 
@@ -17,17 +21,14 @@ pub fn words(frame: &Frame, base: usize) -> Vec<u32> {
     words
 }
 
-/// The planes that ours gives.
+/// The planes that ours gives, by the recipe that users are shown.
 pub fn ours(frame: &Frame) -> Planes {
+    let blocks: Blocks = frame.cells.iter().map(|cell| cell.block).collect();
+    let (loop_filter, segmentation) = (frame.case.loop_filter(), frame.case.segmentation());
     let mut planes = frame.before.clone();
-    for base in bases(frame) {
-        let words = words(frame, base);
-        for at in passes(frame, base) {
-            let (samples, window) = lent(frame, &mut planes, &at);
-            let filtered = pass(samples, &window, &words, &frame.frame, &at);
-            assert_eq!(filtered, Ok(()), "{}, {at:?}", frame.name);
-        }
-    }
+    let filtered =
+        filter_frame(&loop_filter, &segmentation, &frame.frame, &blocks.info(), &mut planes);
+    assert_eq!(filtered, Ok(()), "{}", frame.name);
     planes
 }
 
@@ -36,6 +37,7 @@ pub fn ours(frame: &Frame) -> Planes {
 pub fn by_the_rust(frame: &Frame) -> Planes {
     use crate::rust;
     use oracle::superblock_loop_filter::hook_row;
+    use springspade::Window;
 
     let levels = rust::level_table(&frame.case);
     let mut planes = frame.before.clone();
@@ -45,7 +47,7 @@ pub fn by_the_rust(frame: &Frame) -> Planes {
         for at in passes(frame, base) {
             let (samples, Window { width, height, stride, y_origin }) =
                 lent(frame, &mut planes, &at);
-            let (row, col) = (at.row as u32, at.col as u32);
+            let (row, col) = (at.mi_row as u32, at.mi_col as u32);
             cells.pass(samples, stride, width, height, y_origin, at.plane, at.pass, row, col);
         }
     }
@@ -62,8 +64,8 @@ pub fn passes(frame: &Frame, base: usize) -> impl Iterator<Item = Superblock> {
     let superblocks = (0..frame.frame.mi_cols).step_by(8);
     superblocks.flat_map(move |col| {
         [(0, 0), (0, 1), (1, 0), (1, 1), (2, 0), (2, 1)].map(|(plane, pass)| Superblock {
-            row: base,
-            col,
+            mi_row: base,
+            mi_col: col,
             plane,
             pass,
         })
@@ -71,10 +73,18 @@ pub fn passes(frame: &Frame, base: usize) -> impl Iterator<Item = Superblock> {
 }
 
 /// The plane's rows that a pass is lent: its superblock row and the eight rows above.
-fn lent<'a>(frame: &Frame, planes: &'a mut Planes, at: &Superblock) -> (&'a mut [u16], Window) {
+#[cfg(oracle)]
+fn lent<'a>(
+    frame: &Frame,
+    planes: &'a mut Planes,
+    at: &Superblock,
+) -> (&'a mut [u16], springspade::Window) {
+    use crate::passes::subsampling;
+    use springspade::Window;
+
     let (width, rows) = plane_size(&frame.frame, at.plane);
     let (_, sub_y) = subsampling(&frame.frame, at.plane);
-    let top = (8 * at.row) >> sub_y;
+    let top = (8 * at.mi_row) >> sub_y;
     let (y_origin, end) = (top.saturating_sub(8), rows.min(top + (64 >> sub_y)));
     let window = Window { width, height: end - y_origin, stride: width, y_origin };
     (&mut planes[at.plane as usize][y_origin * width..end * width], window)

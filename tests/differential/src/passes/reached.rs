@@ -20,7 +20,7 @@ impl Reached {
 /// Where the window stands, and what is lent around it.
 fn windows(reached: &mut Reached, pass: &Pass, positions: &[Position]) {
     let (sub_x, sub_y) = pass.subsampling();
-    let (left, top) = ((8 * pass.at.col) >> sub_x, (8 * pass.at.row) >> sub_y);
+    let (left, top) = ((8 * pass.at.mi_col) >> sub_x, (8 * pass.at.mi_row) >> sub_y);
     let window = &pass.window;
     let end = window.y_origin + window.height;
     reached.count("window left of the superblock", window.width <= left);
@@ -42,8 +42,8 @@ fn windows(reached: &mut Reached, pass: &Pass, positions: &[Position]) {
 /// What the frame and its cells are like.
 fn frames(reached: &mut Reached, pass: &Pass, positions: &[Position]) {
     let (frame, at) = (&pass.frame, &pass.at);
-    reached.count("frame ends inside the superblock, right", frame.mi_cols < at.col + 8);
-    reached.count("frame ends inside the superblock, below", frame.mi_rows < at.row + 8);
+    reached.count("frame ends inside the superblock, right", frame.mi_cols < at.mi_col + 8);
+    reached.count("frame ends inside the superblock, below", frame.mi_rows < at.mi_row + 8);
     reached.count("words behind the row's", pass.cells.len() > pass.row_cells());
     reached.count("a column without transform edges", has_no_transform_edges(pass));
     let absent = pass.cells[..pass.row_cells()].iter().any(|word| word >> 18 & 1 == 0);
@@ -64,7 +64,7 @@ fn has_no_transform_edges(pass: &Pass) -> bool {
     let of_rule = pass.at.pass == 1 && pass.subsampling().0 == 1 && mi_cols % 2 == 1;
     let last = pass.cells[..pass.row_cells()].iter().skip(mi_cols - 1).step_by(mi_cols);
     let mut cells = last.map(|&word| unpacked(word).0);
-    of_rule && pass.at.col + 8 >= mi_cols && cells.any(|cell| cell.uvtx == 0 && !cell.skipped)
+    of_rule && pass.at.mi_col + 8 >= mi_cols && cells.any(|cell| cell.uvtx == 0 && !cell.skipped)
 }
 
 /// What one position is like.
@@ -82,7 +82,7 @@ fn position(reached: &mut Reached, pass: &Pass, at: &Position) {
 
 /// What the line filter does at a position, in the window that the ones before it left.
 fn line(reached: &mut Reached, pass: &Pass, samples: &mut [u16], at: &Position) {
-    let depth = pass.frame.depth;
+    let depth = pass.frame.bit_depth;
     let before = read(pass, samples, at);
     let strength = springspade::strength(at.cell.level, pass.frame.sharpness).unwrap();
     let arm = Line { depth, size: at.size, strength, taps: before }.arm();
@@ -126,7 +126,7 @@ pub fn count(reached: &mut Reached, pass: &Pass) {
     let (frame, at) = (&pass.frame, &pass.at);
     let subsampling = format!("subsampling {} {}", frame.sub_x, frame.sub_y);
     let kind =
-        format!("{subsampling}, depth {}, plane {}, pass {}", frame.depth, at.plane, at.pass);
+        format!("{subsampling}, depth {}, plane {}, pass {}", frame.bit_depth, at.plane, at.pass);
     reached.count(&format!("changed, {kind}"), samples != pass.samples);
     let mut falling = pass.samples.clone();
     positions.iter().rev().for_each(|at| step(pass, &mut falling, at));

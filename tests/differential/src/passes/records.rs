@@ -1,16 +1,15 @@
 //! The pass by records: a window that holds its samples, cells with a byte for each field.
 
 use super::Pass;
-use springspade::{
-    CellRecord, PlaneWindow, Returned, cell, pass_records_returned, pass_window_returned,
-};
+use crate::returned::Returned;
+use springspade::{CellRecord, PlaneWindow, cell, pass_records, pass_window};
 
 impl Pass {
     /// What ours returns for the window as a record, and the lent samples after it. Those beside them are left.
     pub fn ours_by_window(&self) -> (Returned, Vec<u16>) {
         let Pass { frame, at, cells, window, .. } = self;
         self.guarded(|samples| {
-            pass_window_returned(PlaneWindow { samples, shape: *window }, cells, frame, at)
+            pass_window(PlaneWindow { samples, shape: *window }, cells, frame, at).into()
         })
     }
 
@@ -22,6 +21,6 @@ impl Pass {
     /// What ours returns for cells as records, and the lent samples after it. Those beside them are left.
     pub fn ours_by_records(&self, records: &[CellRecord]) -> (Returned, Vec<u16>) {
         let Pass { frame, at, window, .. } = self;
-        self.guarded(|samples| pass_records_returned(samples, window, records, frame, at))
+        self.guarded(|samples| pass_records(samples, window, records, frame, at).into())
     }
 }

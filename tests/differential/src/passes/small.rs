@@ -3,15 +3,16 @@
 use super::Pass;
 use crate::positions::filtered;
 use crate::random::Random;
-use springspade::{Frame, Returned, Superblock, Window};
+use crate::returned::Returned;
+use springspade::{Frame, Superblock, Window};
 
 /// Numbers of more than 32 bits. The lower 32 of the first two could pass.
 pub const LARGE: [usize; 3] = [1 << 32, (1 << 32) + 8, usize::MAX - 7];
 
 /// The last superblock of a frame of 11 by 10 cells, with eight rows above it; 22 cells.
 pub fn small() -> Pass {
-    let frame = Frame { sharpness: 7, depth: 12, sub_x: 1, sub_y: 1, mi_cols: 11, mi_rows: 10 };
-    let at = Superblock { row: 8, col: 8, plane: 2, pass: 1 };
+    let frame = Frame { sharpness: 7, bit_depth: 12, sub_x: 1, sub_y: 1, mi_cols: 11, mi_rows: 10 };
+    let at = Superblock { mi_row: 8, mi_col: 8, plane: 2, pass: 1 };
     let window = Window { width: 44, height: 12, stride: 50, y_origin: 24 };
     let mut pass = Pass::accepted(&mut Random(28), frame, at, window);
     // Samples of every depth, and as many as the window needs.

@@ -11,7 +11,7 @@ pub fn random(random: &mut Random, frame: &Frame, at: &Superblock) -> Window {
     // The plane's columns and rows, the superblock's first of each, and the first row below it.
     let (columns, rows) =
         ((8 * frame.mi_cols as i64) >> sub_x, (8 * frame.mi_rows as i64) >> sub_y);
-    let (left, top) = ((8 * at.col as i64) >> sub_x, (8 * at.row as i64) >> sub_y);
+    let (left, top) = ((8 * at.mi_col as i64) >> sub_x, (8 * at.mi_row as i64) >> sub_y);
     let bottom = top + (64 >> sub_y);
     let above = (top - 8).max(0);
     let (width, y_origin, end) = match random.between(0, 15) {

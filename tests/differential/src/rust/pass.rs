@@ -16,7 +16,7 @@ pub fn pass(pass: &Pass) -> Option<Vec<u16>> {
 /// The same from mode info. The pass is one over the cells of this row.
 pub fn pass_lists(row: &Row, pass: &Pass) -> Option<Vec<u16>> {
     let Window { width, height, stride, y_origin } = pass.window;
-    let Superblock { row: base, col, plane, pass: number } = pass.at;
+    let Superblock { mi_row: base, mi_col: col, plane, pass: number } = pass.at;
     levelled(|| {
         let mut samples = lent(pass);
         super::with_frame(row, |frame| {
@@ -42,7 +42,7 @@ pub fn pass_lists(row: &Row, pass: &Pass) -> Option<Vec<u16>> {
 /// The pass over these cells, whatever it does with them.
 pub fn over(pass: &Pass, cells: &HookRow) -> Vec<u16> {
     let Window { width, height, stride, y_origin } = pass.window;
-    let Superblock { row, col, plane, pass: number } = pass.at;
+    let Superblock { mi_row: row, mi_col: col, plane, pass: number } = pass.at;
     let mut samples = lent(pass);
     cells.pass(
         &mut samples,
@@ -60,8 +60,8 @@ pub fn over(pass: &Pass, cells: &HookRow) -> Vec<u16> {
 
 /// The cells in the Rust's form.
 pub fn cells(pass: &Pass) -> HookRow {
-    let Frame { sharpness, depth, sub_x, sub_y, mi_cols, mi_rows } = pass.frame;
-    let (base, mi_cols, mi_rows) = (pass.at.row as u32, mi_cols as u32, mi_rows as u32);
+    let Frame { sharpness, bit_depth: depth, sub_x, sub_y, mi_cols, mi_rows } = pass.frame;
+    let (base, mi_cols, mi_rows) = (pass.at.mi_row as u32, mi_cols as u32, mi_rows as u32);
     HookRow::from_cells(&hook_cells(pass), base, mi_cols, mi_rows, sub_x, sub_y, depth, sharpness)
 }
 

@@ -8,8 +8,8 @@ use springspade::{Frame, Superblock};
 
 /// The runs in the order of the calls; none where the Rust panics for a cell without level.
 pub fn runs(pass: &Pass) -> Option<Vec<Run>> {
-    let Frame { sharpness, depth, sub_x, sub_y, mi_cols, mi_rows } = pass.frame;
-    let Superblock { row, col, plane, pass: number } = pass.at;
+    let Frame { sharpness, bit_depth: depth, sub_x, sub_y, mi_cols, mi_rows } = pass.frame;
+    let Superblock { mi_row: row, mi_col: col, plane, pass: number } = pass.at;
     let cells = hook_cells(pass);
     let [mi_cols, mi_rows, row, col] = [mi_cols, mi_rows, row, col].map(|n| n as u32);
     let calls = levelled(|| {

@@ -56,7 +56,7 @@ fn refusal(reached: &mut Reached, bytes: &[u8], Refused { number, place }: Refus
 
 /// What the frame and its cells are like.
 fn frames(reached: &mut Reached, sheet: &Sheet, pass: &Pass) {
-    let (row, col) = (pass.at.row, pass.at.col);
+    let (row, col) = (pass.at.mi_row, pass.at.mi_col);
     reached.count("frame ends inside the superblock, right", sheet.mi_cols < col + 8);
     reached.count("frame ends inside the superblock, below", sheet.mi_rows < row + 8);
     reached.count("row beyond the first superblock", row > 0);

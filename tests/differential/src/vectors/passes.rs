@@ -35,8 +35,8 @@ pub fn contents() -> Vec<u8> {
 /// Case S, whole and cut, with transform 2 and without level.
 fn document() -> Vec<Pass> {
     const CASE_S: u32 = 0x1156_0000;
-    let frame = Frame { sharpness: 0, depth: 8, sub_x: 0, sub_y: 0, mi_cols: 2, mi_rows: 1 };
-    let at = Superblock { row: 0, col: 0, plane: 0, pass: 0 };
+    let frame = Frame { sharpness: 0, bit_depth: 8, sub_x: 0, sub_y: 0, mi_cols: 2, mi_rows: 1 };
+    let at = Superblock { mi_row: 0, mi_col: 0, plane: 0, pass: 0 };
     let over = |row: &[u16], cells: [u32; 2]| {
         let window = Window { width: row.len(), height: 8, stride: row.len(), y_origin: 0 };
         Pass { frame, at, cells: cells.to_vec(), window, samples: row.repeat(8) }
@@ -60,7 +60,7 @@ fn borders() -> Vec<Pass> {
     for k in 0..32 {
         let [sub_x, sub_y, pass, odd, wide] = array::from_fn(|bit| (k >> bit & 1) as u8);
         let mi = 2 + usize::from(odd);
-        let frame = Frame { sharpness: 0, depth: 8, sub_x, sub_y, mi_cols: mi, mi_rows: mi };
+        let frame = Frame { sharpness: 0, bit_depth: 8, sub_x, sub_y, mi_cols: mi, mi_rows: mi };
         // Level 63: 8 by 8 in every plane with transforms 2, which no size makes; or 16 by 16 with 0.
         let word = if wide == 1 { 0x00a7_f000 } else { 0x5507_f000 };
         // A flat plane for the wide filters, any small steps for the narrow one.
@@ -68,7 +68,7 @@ fn borders() -> Vec<Pass> {
         let (width, height) = ((8 * mi) >> sub_x, (8 * mi) >> sub_y);
         passes.push(Pass {
             frame,
-            at: Superblock { row: 0, col: 0, plane: 1, pass },
+            at: Superblock { mi_row: 0, mi_col: 0, plane: 1, pass },
             cells: vec![word; mi * mi],
             window: Window { width, height, stride: width, y_origin: 0 },
             samples: (0..width * height).map(|_| 100 + random.between(0, most) as u16).collect(),
@@ -117,7 +117,7 @@ fn random() -> Vec<Pass> {
 fn fitting(random: &mut Random) -> Pass {
     loop {
         let mut pass = Pass::random(random);
-        if row_cells(&pass.frame, pass.at.row) > CELLS {
+        if row_cells(&pass.frame, pass.at.mi_row) > CELLS {
             continue;
         }
         pass.cells.truncate(CELLS);
@@ -137,10 +137,10 @@ type Fault = (u8, u32, fn(&mut Pass));
 const FAULTS: [Fault; 69] = [
     (1, 0, |p| p.frame.sharpness = 8),
     (1, 0, |p| p.frame.sharpness = 255),
-    (2, 0, |p| p.frame.depth = 7),
-    (2, 0, |p| p.frame.depth = 9),
-    (2, 0, |p| p.frame.depth = 11),
-    (2, 0, |p| p.frame.depth = 13),
+    (2, 0, |p| p.frame.bit_depth = 7),
+    (2, 0, |p| p.frame.bit_depth = 9),
+    (2, 0, |p| p.frame.bit_depth = 11),
+    (2, 0, |p| p.frame.bit_depth = 13),
     (3, 0, |p| p.frame.sub_x = 2),
     (3, 0, |p| p.frame.sub_y = 2),
     (3, 0, |p| (p.frame.sub_x, p.at.plane) = (255, 0)),
@@ -148,9 +148,9 @@ const FAULTS: [Fault; 69] = [
     (4, 0, |p| p.frame.mi_rows = 0),
     (4, 0, |p| p.frame.mi_cols = 8193),
     (4, 0, |p| p.frame.mi_rows = 8193),
-    (5, 0, |p| p.at.row = 4),
-    (5, 0, |p| p.at.row = 9),
-    (5, 0, |p| p.at.row = 16),
+    (5, 0, |p| p.at.mi_row = 4),
+    (5, 0, |p| p.at.mi_row = 9),
+    (5, 0, |p| p.at.mi_row = 16),
     (5, 0, |p| p.frame.mi_rows = 8),
     (7, 0, |p| p.cells.truncate(21)),
     (7, 0, |p| p.cells.clear()),
@@ -159,11 +159,11 @@ const FAULTS: [Fault; 69] = [
     (9, 0, |p| p.at.plane = 255),
     (9, 0, |p| p.at.pass = 2),
     (9, 0, |p| p.at.pass = 255),
-    (10, 0, |p| p.at.col = 4),
-    (10, 0, |p| p.at.col = 9),
-    (10, 0, |p| p.at.col = 16),
+    (10, 0, |p| p.at.mi_col = 4),
+    (10, 0, |p| p.at.mi_col = 9),
+    (10, 0, |p| p.at.mi_col = 16),
     (10, 0, |p| p.frame.mi_cols = 8),
-    (10, 0, |p| p.at.col = 65528),
+    (10, 0, |p| p.at.mi_col = 65528),
     (11, 0, |p| p.cells[0] |= 1),
     (11, 7, |p| p.cells[7] |= 0x800),
     (11, 21, |p| p.cells[21] |= 0xfff),
@@ -190,16 +190,16 @@ const FAULTS: [Fault; 69] = [
     (13, 44, |p| p.samples[50] = 4096),
     (13, 11 * 44 + 43, |p| p.samples[593] = 4096),
     (13, 3 * 44 + 7, |p| (p.samples[157], p.samples[158], p.samples[149]) = (4096, 4096, 65535)),
-    (13, 5, |p| (p.frame.depth, p.samples[5]) = (8, 256)),
-    (13, 6, |p| (p.frame.depth, p.samples[6]) = (10, 1024)),
-    (1, 0, |p| (p.frame.sharpness, p.frame.depth) = (8, 9)),
-    (2, 0, |p| (p.frame.depth, p.frame.sub_x) = (9, 2)),
+    (13, 5, |p| (p.frame.bit_depth, p.samples[5]) = (8, 256)),
+    (13, 6, |p| (p.frame.bit_depth, p.samples[6]) = (10, 1024)),
+    (1, 0, |p| (p.frame.sharpness, p.frame.bit_depth) = (8, 9)),
+    (2, 0, |p| (p.frame.bit_depth, p.frame.sub_x) = (9, 2)),
     (3, 0, |p| (p.frame.sub_y, p.frame.mi_cols) = (2, 0)),
-    (4, 0, |p| (p.frame.mi_rows, p.at.row) = (0, 4)),
-    (5, 0, |p| (p.at.row, p.at.col) = (4, 4)),
+    (4, 0, |p| (p.frame.mi_rows, p.at.mi_row) = (0, 4)),
+    (5, 0, |p| (p.at.mi_row, p.at.mi_col) = (4, 4)),
     (7, 0, |p| (p.cells, p.at.plane) = (vec![u32::MAX; 21], 3)),
-    (9, 0, |p| (p.at.pass, p.at.col) = (2, 4)),
-    (10, 0, |p| (p.at.col, p.cells[5]) = (4, 1)),
+    (9, 0, |p| (p.at.pass, p.at.mi_col) = (2, 4)),
+    (10, 0, |p| (p.at.mi_col, p.cells[5]) = (4, 1)),
     (11, 5, |p| (p.cells[5], p.window.width) = (1, 0)),
     (12, 0, |p| (p.samples[5], p.window.stride) = (4096, 43)),
     (13, 5, |p| (p.samples[5], p.cells) = (4096, vec![0; 22])),
@@ -227,9 +227,9 @@ impl Record {
     fn bytes(&self) -> Vec<u8> {
         let Pass { frame, at, cells, window, samples } = &self.pass;
         assert!(cells.len() <= CELLS && samples.len() <= SAMPLES, "{}", self.pass.call());
-        let mut bytes = vec![frame.sharpness, frame.depth, frame.sub_x, frame.sub_y];
+        let mut bytes = vec![frame.sharpness, frame.bit_depth, frame.sub_x, frame.sub_y];
         bytes.extend([at.plane, at.pass, self.number, cells.len() as u8]);
-        let numbers = [frame.mi_cols, frame.mi_rows, at.row, at.col];
+        let numbers = [frame.mi_cols, frame.mi_rows, at.mi_row, at.mi_col];
         bytes.extend(numbers.iter().flat_map(|&n| u16::try_from(n).unwrap().to_le_bytes()));
         let numbers = [window.width, window.height, window.stride, window.y_origin, samples.len()];
         bytes.extend(numbers.iter().flat_map(|&n| u32::try_from(n).unwrap().to_le_bytes()));

@@ -31,7 +31,7 @@ pub fn contents(folder: &Path) -> Vec<u8> {
 
 /// Lists of as many blocks as a record takes, each a row of a frame with 3 columns.
 fn rows_of(blocks: &[Block], sub_x: u8, sub_y: u8) -> impl Iterator<Item = Row> {
-    let frame = Frame { sharpness: 0, depth: 8, sub_x, sub_y, mi_cols: 3, mi_rows: 0 };
+    let frame = Frame { sharpness: 0, bit_depth: 8, sub_x, sub_y, mi_cols: 3, mi_rows: 0 };
     blocks.chunks(ENTRIES).map(move |blocks| {
         let frame = Frame { mi_rows: blocks.len() / 3, ..frame };
         let levels = array::from_fn(|k| k as u8);
@@ -109,10 +109,10 @@ type Fault = (u8, u8, fn(&mut Record));
 const FAULTS: [Fault; 43] = [
     (1, 0, |r| r.row.frame.sharpness = 8),
     (1, 0, |r| r.row.frame.sharpness = 255),
-    (2, 0, |r| r.row.frame.depth = 7),
-    (2, 0, |r| r.row.frame.depth = 9),
-    (2, 0, |r| r.row.frame.depth = 11),
-    (2, 0, |r| r.row.frame.depth = 13),
+    (2, 0, |r| r.row.frame.bit_depth = 7),
+    (2, 0, |r| r.row.frame.bit_depth = 9),
+    (2, 0, |r| r.row.frame.bit_depth = 11),
+    (2, 0, |r| r.row.frame.bit_depth = 13),
     (3, 0, |r| r.row.frame.sub_x = 2),
     (3, 0, |r| r.row.frame.sub_y = 2),
     (4, 0, |r| r.row.frame.mi_cols = 0),
@@ -147,8 +147,8 @@ const FAULTS: [Fault; 43] = [
         r.row.blocks.tx_sizes[3] = 4;
         r.row.blocks.skips[2] = 2;
     }),
-    (1, 0, |r| (r.row.frame.sharpness, r.row.frame.depth) = (8, 9)),
-    (2, 0, |r| (r.row.frame.depth, r.row.frame.sub_x) = (9, 2)),
+    (1, 0, |r| (r.row.frame.sharpness, r.row.frame.bit_depth) = (8, 9)),
+    (2, 0, |r| (r.row.frame.bit_depth, r.row.frame.sub_x) = (9, 2)),
     (3, 0, |r| (r.row.frame.sub_y, r.row.frame.mi_cols) = (2, 0)),
     (4, 0, |r| (r.row.frame.mi_rows, r.row.base) = (0, 4)),
     (5, 0, |r| (r.row.base, r.row.levels[3]) = (4, 64)),
@@ -185,7 +185,7 @@ impl Record {
             let cells = rust::row(&self.row);
             after.iter_mut().zip(&cells).for_each(|(word, cell)| *word = packed(cell));
         }
-        let mut bytes = vec![frame.sharpness, frame.depth, frame.sub_x, frame.sub_y];
+        let mut bytes = vec![frame.sharpness, frame.bit_depth, frame.sub_x, frame.sub_y];
         let numbers = [frame.mi_cols, frame.mi_rows, *base];
         bytes.extend(numbers.iter().flat_map(|&n| u16::try_from(n).unwrap().to_le_bytes()));
         bytes.extend(lengths.map(|length| length as u8));

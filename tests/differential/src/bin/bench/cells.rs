@@ -25,7 +25,7 @@ fn block(random: &mut Random) -> Block {
 /// 8 rows of a frame 1,920 samples wide. The Rust also makes the list and the 64 strengths.
 fn cells(name: &str, sub: u8) {
     let frame =
-        Frame { sharpness: 0, depth: 8, sub_x: sub, sub_y: sub, mi_cols: 240, mi_rows: 135 };
+        Frame { sharpness: 0, bit_depth: 8, sub_x: sub, sub_y: sub, mi_cols: 240, mi_rows: 135 };
     let levels = array::from_fn(|k| k as u8);
     let mut random = Random(15);
     let blocks = (0..8 * frame.mi_cols).map(|_| block(&mut random)).collect();

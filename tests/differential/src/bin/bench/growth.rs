@@ -55,7 +55,7 @@ pub fn csv() {
 /// All six passes of a superblock whose quarters are of these kinds.
 fn point(quarters: [Kind; 4]) {
     let mi_cols = 8 * (SUPERBLOCKS + 2);
-    let frame = Frame { sharpness: 0, depth: DEPTH, sub_x: 1, sub_y: 1, mi_cols, mi_rows: 24 };
+    let frame = Frame { sharpness: 0, bit_depth: DEPTH, sub_x: 1, sub_y: 1, mi_cols, mi_rows: 24 };
     let row = Row { frame, base: 8, levels: [32; 64], blocks: blocks(quarters, mi_cols) };
     let windows = [0, 1, 2].map(|plane| window(&frame, row.base, MARGIN, plane));
     let before = planes(&mut Random(51), &windows, DEPTH, "mixed");

@@ -1,10 +1,11 @@
 //! Level tables and strengths.
 
 use crate::row::{nanoseconds, row};
+use differential::returned::{level_table_into, strength_returned};
 use differential::{cases::*, rust};
 use oracle::adaptive_filter_strength::FilterStrength;
 use oracle::superblock_loop_filter::hook_strength;
-use springspade::{level_table_into, strength_returned};
+
 use std::hint::black_box;
 
 const RUNS: usize = 2_000;

@@ -101,7 +101,7 @@ fn luma(shape: &Shape) -> usize {
 
 fn superblocks(shape: &Shape, depth: u8, kind: &str) -> Superblocks {
     let &Shape { mi_cols, below, .. } = shape;
-    let frame = Frame { sharpness: 0, depth, sub_x: 1, sub_y: 1, mi_cols, mi_rows: 135 };
+    let frame = Frame { sharpness: 0, bit_depth: depth, sub_x: 1, sub_y: 1, mi_cols, mi_rows: 135 };
     let mut random = Random(34);
     let levels = [(); 64].map(|()| random.between(16, 40) as u8);
     let row = Row { frame, base: BASE, levels, blocks: mixed(&mut random, mi_cols) };

@@ -11,7 +11,7 @@ const RUNS: usize = 2_000;
 /// As wide as 1080p, a superblock row with the eight rows above.
 const WINDOW: Window = Window { width: 1_920, height: 72, stride: 1_920, y_origin: 0 };
 
-const AT: Superblock = Superblock { row: 0, col: 0, plane: 0, pass: 0 };
+const AT: Superblock = Superblock { mi_row: 0, mi_col: 0, plane: 0, pass: 0 };
 
 /// Level 32, 8 by 8 with a transform of 8 by 8: in a frame of one cell its only edge is the frame's own,
 /// so that no position is decided.
@@ -28,7 +28,8 @@ pub fn rows() {
 }
 
 fn range(name: &str, depth: u8) {
-    let frame = Frame { sharpness: 0, depth, sub_x: 1, sub_y: 1, mi_cols: 1, mi_rows: 1 };
+    let frame =
+        Frame { sharpness: 0, bit_depth: depth, sub_x: 1, sub_y: 1, mi_cols: 1, mi_rows: 1 };
     // The greatest sample that is in range.
     let mut samples = vec![(1 << depth) - 1; WINDOW.width * WINDOW.height];
     let calls = samples.len();

@@ -99,7 +99,7 @@ impl Superblocks {
         nanoseconds(|| {
             self.each_pass(|at, &Window { width, height, stride, y_origin }| {
                 let samples = &mut planes[at.plane as usize];
-                let (row, col) = (at.row as u32, at.col as u32);
+                let (row, col) = (at.mi_row as u32, at.mi_col as u32);
                 let (plane, pass) = (at.plane, at.pass);
                 self.cells.pass(samples, stride, width, height, y_origin, plane, pass, row, col);
             });
@@ -116,7 +116,7 @@ impl Superblocks {
         for col in self.columns.clone().step_by(8) {
             for plane in 0..3 {
                 for pass in 0..2 {
-                    let at = Superblock { row: self.base, col, plane, pass };
+                    let at = Superblock { mi_row: self.base, mi_col: col, plane, pass };
                     run(black_box(&at), &self.windows[plane as usize]);
                 }
             }

@@ -1,16 +1,21 @@
 //! The forms by records: a window that holds its samples, and cells with a byte for each field.
 
 use crate::c::{self, PassNumbers, RowNumbers};
-use crate::{Cell, Frame, ModeInfo, Refused, Returned, Superblock, Window};
+use crate::refused::{Refused, accepted};
+use crate::{Cell, Frame, ModeInfo, Superblock, Window};
+
+pub use crate::c::CellRecord;
 
 /// A window together with the samples that it is of.
 #[derive(Debug)]
 pub struct PlaneWindow<'a> {
+    /// The lent samples; those of the window are `samples[y * stride + x]`.
     pub samples: &'a mut [u16],
+    /// Which of them are the window's.
     pub shape: Window,
 }
 
-/// `pass` over a window that holds its samples.
+/// [`pass`](crate::pass) over a window that holds its samples.
 #[inline]
 pub fn pass_window(
     window: PlaneWindow,
@@ -18,20 +23,9 @@ pub fn pass_window(
     frame: &Frame,
     at: &Superblock,
 ) -> Result<(), Refused> {
-    pass_window_returned(window, cells, frame, at).accepted()
-}
-
-/// The same, as the C function gives it.
-#[inline]
-pub fn pass_window_returned(
-    window: PlaneWindow,
-    cells: &[u32],
-    frame: &Frame,
-    at: &Superblock,
-) -> Returned {
     let PlaneWindow { samples, shape: Window { width, height, stride, y_origin } } = window;
     // SAFETY: each pointer goes with the length of its own slice.
-    unsafe {
+    accepted(unsafe {
         c::springspade_pass_window(
             samples.as_mut_ptr(),
             samples.len(),
@@ -43,40 +37,22 @@ pub fn pass_window_returned(
             y_origin,
             numbers(frame, at),
         )
-    }
+    })
 }
 
 fn numbers(frame: &Frame, at: &Superblock) -> PassNumbers {
     PassNumbers {
         sharpness: frame.sharpness,
-        depth: frame.depth,
-        subx: frame.sub_x,
-        suby: frame.sub_y,
-        cols: frame.mi_cols,
-        rows: frame.mi_rows,
-        row: at.row,
-        col: at.col,
+        bit_depth: frame.bit_depth,
+        sub_x: frame.sub_x,
+        sub_y: frame.sub_y,
+        mi_cols: frame.mi_cols,
+        mi_rows: frame.mi_rows,
+        mi_row: at.mi_row,
+        mi_col: at.mi_col,
         plane: at.plane,
         pass: at.pass,
     }
-}
-
-/// A cell with a byte for each field. A flag is 0 or 1.
-#[repr(C)]
-#[derive(Debug, Clone, Copy, PartialEq, Eq, Default)]
-pub struct CellRecord {
-    pub width0: u8,
-    pub width1: u8,
-    pub height0: u8,
-    pub height1: u8,
-    pub tx: u8,
-    /// The transform of planes 1 and 2.
-    pub uvtx: u8,
-    /// Skipped and inter: its inner transform edges are not filtered.
-    pub skipped: u8,
-    /// Whether the cell has a level.
-    pub present: u8,
-    pub level: u8,
 }
 
 impl From<Cell> for CellRecord {
@@ -95,8 +71,9 @@ impl From<Cell> for CellRecord {
     }
 }
 
-/// `pass` over cells as records. A field that is too large for its bits of the word is refused as the
-/// word with a zero bit set is: 11, with the cell as its place.
+/// [`pass`](crate::pass) over cells as records. A field that is too large for its bits of the word is refused as a word
+/// with a zero bit set is: 11, with the cell as its place. Each call packs the whole row, and takes a little more than
+/// 256 KiB of stack.
 #[inline]
 pub fn pass_records(
     samples: &mut [u16],
@@ -105,66 +82,44 @@ pub fn pass_records(
     frame: &Frame,
     at: &Superblock,
 ) -> Result<(), Refused> {
-    pass_records_returned(samples, window, records, frame, at).accepted()
-}
-
-/// The same, as the C function gives it.
-#[inline]
-pub fn pass_records_returned(
-    samples: &mut [u16],
-    window: &Window,
-    records: &[CellRecord],
-    frame: &Frame,
-    at: &Superblock,
-) -> Returned {
-    // SAFETY: each pointer goes with the length of its own slice.
-    unsafe {
+    // SAFETY: each pointer goes with the length of its own slice. On a thread with too little stack the call ends the
+    // program: it touches every page of its frame, and so the page that guards the stack's end.
+    accepted(unsafe {
         c::springspade_pass_records(
-            records.as_ptr(),
-            records.len(),
             samples.as_mut_ptr(),
             samples.len(),
+            records.as_ptr(),
+            records.len(),
             window.width,
             window.height,
             window.stride,
             window.y_origin,
             numbers(frame, at),
         )
-    }
+    })
 }
 
-/// `row` into a list of records. Records behind the row's cells are left.
+/// [`row`](crate::row) into a list of records. Records behind the row's cells are left. A call takes a little more than
+/// 256 KiB of stack.
 #[inline]
 pub fn row_records(
     info: &ModeInfo,
     levels: &[u8; 64],
     frame: &Frame,
-    base: usize,
+    mi_row: usize,
     records: &mut [CellRecord],
 ) -> Result<(), Refused> {
-    row_records_returned(info, levels, frame, base, records).accepted()
-}
-
-/// The same, as the C function gives it.
-#[inline]
-pub fn row_records_returned(
-    info: &ModeInfo,
-    levels: &[u8; 64],
-    frame: &Frame,
-    base: usize,
-    records: &mut [CellRecord],
-) -> Returned {
     let numbers = RowNumbers {
         sharpness: frame.sharpness,
-        depth: frame.depth,
-        subx: frame.sub_x,
-        suby: frame.sub_y,
-        cols: frame.mi_cols,
-        rows: frame.mi_rows,
-        base,
+        bit_depth: frame.bit_depth,
+        sub_x: frame.sub_x,
+        sub_y: frame.sub_y,
+        mi_cols: frame.mi_cols,
+        mi_rows: frame.mi_rows,
+        mi_row,
     };
-    // SAFETY: each pointer goes with the length of its own slice.
-    unsafe {
+    // SAFETY: each pointer goes with the length of its own slice; of the stack holds what `pass_records` says.
+    accepted(unsafe {
         c::springspade_row_records(
             info.mi_sizes.as_ptr(),
             info.mi_sizes.len(),
@@ -183,5 +138,5 @@ pub fn row_records_returned(
             records.as_mut_ptr(),
             records.len(),
         )
-    }
+    })
 }

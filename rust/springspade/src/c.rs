@@ -1,0 +1,321 @@
+//! The C functions of `libspringspade.a`, as `include/springspade.h` has them.
+//! Made by `cargo run -p border` in tests/ from the exported functions of crates/.
+
+/// What a call answers: number and place 0 where it was accepted, else the number of the refusal and its place, which is
+/// 0 where the number names none. Of several refusals the lowest number is given, with its smallest place. A refused
+/// call writes nothing.
+#[repr(C)]
+#[derive(Debug, Clone, Copy, PartialEq, Eq, Default)]
+pub struct Refusal {
+    pub number: u32,
+    pub place: u32,
+}
+
+/// The answer of springspade_strength: number and place 0 with the three values, or the number of the refusal with
+/// zeros. The values are those of 8 bits; springspade_line scales them to its bit_depth.
+#[repr(C)]
+#[derive(Debug, Clone, Copy, PartialEq, Eq, Default)]
+pub struct Strength {
+    pub number: u32,
+    pub place: u32,
+    pub limit: u8,
+    pub blimit: u8,
+    pub thresh: u8,
+}
+
+/// The answer of springspade_edge: number and place 0 with the facts, or the number of the refusal with zeros.
+#[repr(C)]
+#[derive(Debug, Clone, Copy, PartialEq, Eq, Default)]
+pub struct Edge {
+    pub number: u32,
+    pub place: u32,
+    /// The position in luma samples.
+    pub x: usize,
+    pub y: usize,
+    /// The cell that it reads, in units of 8 luma samples.
+    pub loop_col: usize,
+    pub loop_row: usize,
+    pub is_block_edge: bool,
+    pub is_tx_edge: bool,
+    pub is_32_edge: bool,
+    pub on_screen: bool,
+    /// Whether the position is filtered, and with which filter_size of springspade_line.
+    pub apply_filter: bool,
+    pub filter_size: u8,
+}
+
+/// What the pass reads of a cell. The logarithms are 0 to 3.
+#[repr(C)]
+#[derive(Debug, Clone, Copy, PartialEq, Eq, Default)]
+pub struct LfCell {
+    /// Logarithm of the block's width in units of 8 luma samples, where the plane is not subsampled and where it is.
+    pub width0: u8,
+    pub width1: u8,
+    /// The same of its height.
+    pub height0: u8,
+    pub height1: u8,
+    /// The transform in plane 0, and in planes 1 and 2: 0 (4x4) to 3 (32x32).
+    pub tx: u8,
+    pub uvtx: u8,
+    /// Skip is set, and the block is inter.
+    pub skipped: bool,
+    /// The cell has a level.
+    pub present: bool,
+    /// 0 to 63; 0 where there is none.
+    pub level: u8,
+}
+
+/// The numbers of springspade_pass behind its window: the frame's, the superblock's, and which plane and pass.
+#[repr(C)]
+#[derive(Debug, Clone, Copy, PartialEq, Eq, Default)]
+pub struct PassNumbers {
+    pub sharpness: u8,
+    pub bit_depth: u8,
+    pub sub_x: u8,
+    pub sub_y: u8,
+    pub mi_cols: usize,
+    pub mi_rows: usize,
+    pub mi_row: usize,
+    pub mi_col: usize,
+    pub plane: u8,
+    /// 0 for vertical edges, 1 for horizontal ones.
+    pub pass: u8,
+}
+
+/// A cell as LfCell, with a byte for each field: skipped and present are 0 or 1.
+#[repr(C)]
+#[derive(Debug, Clone, Copy, PartialEq, Eq, Default)]
+pub struct CellRecord {
+    pub width0: u8,
+    pub width1: u8,
+    pub height0: u8,
+    pub height1: u8,
+    pub tx: u8,
+    pub uvtx: u8,
+    pub skipped: u8,
+    pub present: u8,
+    pub level: u8,
+}
+
+/// The numbers of springspade_row: the frame's, and the row's.
+#[repr(C)]
+#[derive(Debug, Clone, Copy, PartialEq, Eq, Default)]
+pub struct RowNumbers {
+    pub sharpness: u8,
+    pub bit_depth: u8,
+    pub sub_x: u8,
+    pub sub_y: u8,
+    pub mi_cols: usize,
+    pub mi_rows: usize,
+    pub mi_row: usize,
+}
+
+unsafe extern "C" {
+    /// Writes the frame's level table to the first 64 of levels, at segment * 8 + reference * 2 + mode type; the reference
+    /// is 0 intra, 1 last, 2 golden, 3 altref. level: 0 to 63. The flags are those of the frame header. deltas: four by
+    /// reference, then two by mode type. Where deltas_present has false the default holds: 1, 0, -1, -1, 0, 0.
+    /// feature_enabled, feature_data: 32 each, at segment * 4 + feature.
+    /// Refusals: 6 level above 63; 7 fewer than 6 deltas or deltas_present, 32 features or 64 levels.
+    pub unsafe fn springspade_level_table(
+        level: u8,
+        delta_enabled: bool,
+        delta_update: bool,
+        deltas: *const i8,
+        deltas_len: usize,
+        deltas_present: *const bool,
+        deltas_present_len: usize,
+        seg_enabled: bool,
+        abs_or_delta_update: bool,
+        feature_enabled: *const bool,
+        feature_enabled_len: usize,
+        feature_data: *const i16,
+        feature_data_len: usize,
+        levels: *mut u8,
+        levels_len: usize,
+    ) -> Refusal;
+
+    /// The strength of the line filter for a level, 0 to 63, and the frame's sharpness, 0 to 7.
+    /// Refusals: 1 sharpness above 7; 6 level above 63.
+    pub safe fn springspade_strength(level: u8, sharpness: u8) -> Strength;
+
+    /// The mode type of a mode: 1 for NEARESTMV (10), NEARMV (11) and NEWMV (13), 0 for any other number.
+    pub safe fn springspade_mode_type(y_mode: u8) -> usize;
+
+    /// Filters 16 samples across an edge in place: p7 to p0, then q0 to q7. taps must point to 16 samples.
+    /// bit_depth: 8, 10 or 12. filter_size: 0, 1 or 2; it changes at most 2, 3 or 7 samples on each side of the edge.
+    /// limit, blimit, thresh: as springspade_strength gives them.
+    /// Refusals: 2 bit_depth not 8, 10, 12; 13 sample >= 1 << bit_depth (place: its tap, 0 to 15); 15 filter_size above 2.
+    pub safe fn springspade_line(
+        taps: &mut [u16; 16],
+        bit_depth: u8,
+        filter_size: u8,
+        limit: u8,
+        blimit: u8,
+        thresh: u8,
+    ) -> Refusal;
+
+    /// The facts of position i on an edge of the superblock at mi_row, mi_col. These, mi_cols, mi_rows count 8 luma samples.
+    /// sub_x, sub_y, tx_size are those of the plane: sub_x and sub_y are 0 in plane 0. pass: 0 vertical edges, 1 horizontal.
+    /// Pass 0 has edge below 16 >> sub_x and i below 64 >> sub_y, pass 1 has edge below 16 >> sub_y and i below 64 >> sub_x.
+    /// The cell: mi_size 0 (4x4) to 12 (64x64), tx_size 0 (4x4) to 3 (32x32), skip 0 or 1, ref_frame 0 intra, above 0 inter.
+    /// Refusals: 3 to 5 as springspade_row; 8 mi_size, tx_size or skip too large; 9 pass above 1; 10 mi_col no multiple of
+    /// 8 below mi_cols; 16 edge or i too large.
+    pub safe fn springspade_edge(
+        sub_x: u8,
+        sub_y: u8,
+        mi_cols: usize,
+        mi_rows: usize,
+        mi_row: usize,
+        mi_col: usize,
+        pass: u8,
+        edge: usize,
+        i: usize,
+        mi_size: u8,
+        tx_size: u8,
+        skip: u8,
+        ref_frame: i32,
+    ) -> Edge;
+
+    /// Packs the cells of the superblock row at mi_row into the front of cells; words behind them are left.
+    /// mi_row, mi_cols, mi_rows count 8 luma samples. The lists start at the row's first cell, row by row, mi_cols to a row,
+    /// min(8, mi_rows - mi_row) rows: mi_sizes 0 (4x4) to 12 (64x64), tx_sizes 0 (4x4) to 3 (32x32), skips 0 or 1,
+    /// ref_frames 0 intra, 1 last, 2 golden, 3 altref, segment_ids 0 to 7. levels: the 64 of springspade_level_table.
+    /// Refusals: 1 sharpness above 7; 2 bit_depth not 8, 10, 12; 3 sub_x, sub_y above 1; 4 mi_cols, mi_rows 0 or above 8192;
+    /// 5 mi_row no multiple of 8 below mi_rows; 6 level above 63 (place: entry); 7 short list; 8 bad cell (place: cell).
+    pub unsafe fn springspade_row(
+        mi_sizes: *const u8,
+        mi_sizes_len: usize,
+        tx_sizes: *const u8,
+        tx_sizes_len: usize,
+        skips: *const u8,
+        skips_len: usize,
+        ref_frames: *const i32,
+        ref_frames_len: usize,
+        y_modes: *const u8,
+        y_modes_len: usize,
+        segment_ids: *const u8,
+        segment_ids_len: usize,
+        levels: &[u8; 64],
+        sharpness: u8,
+        bit_depth: u8,
+        sub_x: u8,
+        sub_y: u8,
+        mi_cols: usize,
+        mi_rows: usize,
+        mi_row: usize,
+        cells: *mut u32,
+        cells_len: usize,
+    ) -> Refusal;
+
+    /// The fields of a cell's word. Takes any word; its low 12 bits are not read.
+    pub safe fn springspade_cell(word: u32) -> LfCell;
+
+    /// Filters the superblock at mi_row, mi_col of a plane in place: vertical edges (pass 0) or horizontal ones (pass 1).
+    /// samples: height rows of width samples, stride apart, the first being the plane's row y_origin; width and y_origin +
+    /// height at most 65536, stride at most 131072. cells: as packed by springspade_row. mi_col counts 8 luma samples.
+    /// sub_x, sub_y: the frame's, also for plane 0. Refusals: 1 to 5 as springspade_row; 7 short cells; 9 plane above 2,
+    /// pass above 1; 10 mi_col no multiple of 8 below mi_cols; 11 bad word (place: cell); 12 wrong window or short samples;
+    /// 13 sample >= 1 << bit_depth (place: row * width + column); 14 cell without level (place: edge * 64 + position).
+    pub unsafe fn springspade_pass(
+        samples: *mut u16,
+        samples_len: usize,
+        cells: *const u32,
+        cells_len: usize,
+        width: usize,
+        height: usize,
+        stride: usize,
+        y_origin: usize,
+        sharpness: u8,
+        bit_depth: u8,
+        sub_x: u8,
+        sub_y: u8,
+        mi_cols: usize,
+        mi_rows: usize,
+        mi_row: usize,
+        mi_col: usize,
+        plane: u8,
+        pass: u8,
+    ) -> Refusal;
+
+    /// As springspade_pass, without its tests and without an answer. The caller must hand over only what springspade_pass
+    /// would accept; else memory outside samples and cells may be read or written.
+    pub unsafe fn springspade_pass_unchecked(
+        samples: *mut u16,
+        samples_len: usize,
+        cells: *const u32,
+        cells_len: usize,
+        width: usize,
+        height: usize,
+        stride: usize,
+        y_origin: usize,
+        sharpness: u8,
+        bit_depth: u8,
+        sub_x: u8,
+        sub_y: u8,
+        mi_cols: usize,
+        mi_rows: usize,
+        mi_row: usize,
+        mi_col: usize,
+        plane: u8,
+        pass: u8,
+    );
+
+    /// As springspade_pass, with the numbers behind the window in a record.
+    pub unsafe fn springspade_pass_window(
+        samples: *mut u16,
+        samples_len: usize,
+        cells: *const u32,
+        cells_len: usize,
+        width: usize,
+        height: usize,
+        stride: usize,
+        y_origin: usize,
+        numbers: PassNumbers,
+    ) -> Refusal;
+
+    /// As springspade_pass, over cell records in place of words, with the numbers behind the window in a record.
+    /// Refusal 11 is also for a record with a field too large (place: record). Needs somewhat over 256 KiB of stack.
+    pub unsafe fn springspade_pass_records(
+        samples: *mut u16,
+        samples_len: usize,
+        records: *const CellRecord,
+        records_len: usize,
+        width: usize,
+        height: usize,
+        stride: usize,
+        y_origin: usize,
+        numbers: PassNumbers,
+    ) -> Refusal;
+
+    /// As springspade_row, into cell records in place of words, with the numbers in a record. Records behind the row's cells
+    /// are left.
+    /// Needs somewhat over 256 KiB of stack.
+    pub unsafe fn springspade_row_records(
+        mi_sizes: *const u8,
+        mi_sizes_len: usize,
+        tx_sizes: *const u8,
+        tx_sizes_len: usize,
+        skips: *const u8,
+        skips_len: usize,
+        ref_frames: *const i32,
+        ref_frames_len: usize,
+        y_modes: *const u8,
+        y_modes_len: usize,
+        segment_ids: *const u8,
+        segment_ids_len: usize,
+        levels: &[u8; 64],
+        numbers: RowNumbers,
+        records: *mut CellRecord,
+        records_len: usize,
+    ) -> Refusal;
+
+    /// Writes the runs that a pass would filter to the front of text, or the line "refused N place P" where it would be
+    /// refused. sheet: a header of 8 bytes, then the words of the superblock row's cells, most significant byte first.
+    /// Returns how many bytes were written, or 0 where text has fewer than 2048 bytes and is left as it was.
+    pub unsafe fn springspade_sheet(
+        sheet: *const u8,
+        sheet_len: usize,
+        text: *mut u8,
+        text_len: usize,
+    ) -> usize;
+}
