@@ -2,7 +2,9 @@
 ghost use mathlib.Core.Path.{_≡_};
 ghost use Rattle.c_border.specs.Border.{numbersOf, crossing};
 
-// A refusal's number and place; 0 and 0 where the call was accepted.
+// What a call answers: number and place 0 where it was accepted, else the number of the refusal and its place, which is
+// 0 where the number names none. Of several refusals the lowest number is given, with its smallest place. A refused
+// call writes nothing.
 #[repr(C)]
 pub struct Refusal {
     pub number: u32,

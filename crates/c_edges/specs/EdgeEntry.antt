@@ -8,8 +8,8 @@ use Rattle.edges.specs.declared.SuperblockFilterEdge.{SuperblockFilterEdge}
 use Rattle.edges.specs.declared.SuperblockFilterMi.{SuperblockFilterMi}
 use Rattle.c_edges.specs.declared.Edge.{Edge}
 
-abbrev pub miOf : (miSize txSz skip : ℕ) (refFrame : ℤ) → SuperblockFilterMi
-miOf miSize txSz skip refFrame = record { «mi_size» = miSize; «tx_sz» = txSz; skip = skip; «ref_frame» = refFrame }
+abbrev pub miOf : (miSize txSize skip : ℕ) (refFrame : ℤ) → SuperblockFilterMi
+miOf miSize txSize skip refFrame = record { «mi_size» = miSize; «tx_sz» = txSize; skip = skip; «ref_frame» = refFrame }
 
 -- a refusal has no facts: zeros
 abbrev pub entryOf : Outcome SuperblockFilterEdge → Edge
@@ -26,7 +26,7 @@ entryOf (accepted e) =
       «is_32_edge» = e .«is_32_edge»;
       «on_screen» = e .«on_screen»;
       «apply_filter» = e .«apply_filter»;
-      size = e .size;
+      «filter_size» = e .size;
     }
 entryOf (refused number place) =
     record {
@@ -41,5 +41,5 @@ entryOf (refused number place) =
       «is_32_edge» = false;
       «on_screen» = false;
       «apply_filter» = false;
-      size = 0;
+      «filter_size» = 0;
     }

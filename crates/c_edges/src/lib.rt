@@ -6,21 +6,24 @@ ghost use Rattle.c_edges.specs.EdgeEntry.{entryOf, miOf};
 use edges::EdgeAnswer;
 use edges::SuperblockFilterMi;
 
-// Number and place of a refusal, or 0 and 0 with the facts.
+// The answer of springspade_edge: number and place 0 with the facts, or the number of the refusal with zeros.
 #[repr(C)]
 pub struct Edge {
     pub number: u32,
     pub place: u32,
+    // The position in luma samples.
     pub x: usize,
     pub y: usize,
+    // The cell that it reads, in units of 8 luma samples.
     pub loop_col: usize,
     pub loop_row: usize,
     pub is_block_edge: bool,
     pub is_tx_edge: bool,
     pub is_32_edge: bool,
     pub on_screen: bool,
+    // Whether the position is filtered, and with which filter_size of springspade_line.
     pub apply_filter: bool,
-    pub size: u8,
+    pub filter_size: u8,
 }
 
 fn refusal(number: u32) -> Edge
@@ -38,7 +41,7 @@ fn refusal(number: u32) -> Edge
         is_32_edge: false,
         on_screen: false,
         apply_filter: false,
-        size: 0,
+        filter_size: 0,
     }
 }
 
@@ -61,7 +64,7 @@ fn entry_of(answer: EdgeAnswer) -> Edge
                 is_32_edge: e.is_32_edge,
                 on_screen: e.on_screen,
                 apply_filter: e.apply_filter,
-                size: e.size,
+                filter_size: e.size,
             }
         }
         EdgeAnswer::Subsampling => refusal(3),
@@ -74,34 +77,40 @@ fn entry_of(answer: EdgeAnswer) -> Edge
     }
 }
 
+// The facts of position i on an edge of the superblock at mi_row, mi_col. mi_cols, mi_rows, mi_row, mi_col count 8 luma
+// samples. sub_x, sub_y, tx_size are those of the plane: sub_x, sub_y are 0 in plane 0. pass: 0 vertical, 1 horizontal.
+// Pass 0 has edge below 16 >> sub_x and i below 64 >> sub_y, pass 1 has edge below 16 >> sub_y and i below 64 >> sub_x.
+// The cell: mi_size 0 (4x4) to 12 (64x64), tx_size 0 (4x4) to 3 (32x32), skip 0 or 1, ref_frame 0 intra, above 0 inter.
+// Refusals: 3 to 5 as springspade_row; 8 mi_size, tx_size or skip too large; 9 pass above 1; 10 mi_col no multiple of
+// 8 below mi_cols; 16 edge or i too large.
 #[no_mangle]
 pub extern "C" fn springspade_edge(
-    pass: u8,
-    row: usize,
-    col: usize,
-    edge: usize,
-    i: usize,
     sub_x: u8,
     sub_y: u8,
     mi_cols: usize,
     mi_rows: usize,
+    mi_row: usize,
+    mi_col: usize,
+    pass: u8,
+    edge: usize,
+    i: usize,
     mi_size: u8,
-    tx_sz: u8,
+    tx_size: u8,
     skip: u8,
     ref_frame: i32,
 ) -> Edge
-    ensures { λ r. ⌜ r ≡ entryOf (superblockFilterEdge pass row col edge i «sub_x» «sub_y» «mi_cols» «mi_rows» (miOf «mi_size» «tx_sz» skip «ref_frame»)) ⌝ }
+    ensures { λ r. ⌜ r ≡ entryOf (superblockFilterEdge pass «mi_row» «mi_col» edge i «sub_x» «sub_y» «mi_cols» «mi_rows» (miOf «mi_size» «tx_size» skip «ref_frame»)) ⌝ }
 {
     let mi = SuperblockFilterMi {
         mi_size,
-        tx_sz,
+        tx_sz: tx_size,
         skip,
         ref_frame,
     };
     let answer = edges::superblock_filter_edge(
         pass,
-        row,
-        col,
+        mi_row,
+        mi_col,
         edge,
         i,
         sub_x,

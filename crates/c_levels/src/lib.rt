@@ -79,21 +79,25 @@ fn segmentation_params(
     }
 }
 
-// The table of the first six deltas and 32 features goes into the first 64 of levels.
+// Writes the frame's level table to the first 64 of levels, at segment * 8 + reference * 2 + mode type; the reference
+// is 0 intra, 1 last, 2 golden, 3 altref. level: 0 to 63. The flags are those of the frame header. deltas: four by
+// reference, then two by mode type. Where deltas_present has false the default holds: 1, 0, -1, -1, 0, 0.
+// feature_enabled, feature_data: 32 each, at segment * 4 + feature.
+// Refusals: 6 level above 63; 7 fewer than 6 deltas or deltas_present, 32 features or 64 levels.
 #[no_mangle]
 pub extern "C" fn springspade_level_table(
     level: u8,
     delta_enabled: bool,
     delta_update: bool,
     deltas: &[i8],
-    present: &[bool],
+    deltas_present: &[bool],
     seg_enabled: bool,
     abs_or_delta_update: bool,
     feature_enabled: &[bool],
     feature_data: &[i16],
     levels: &mut [u8],
 ) -> Refusal
-    ensures { λ r. ⌜ Answers (levelEntry level «delta_enabled» «delta_update» (now (deltas .entry)) (now (present .entry)) «seg_enabled» «abs_or_delta_update» (now («feature_enabled» .entry)) (now («feature_data» .entry)) (now (levels .entry))) (numbersOf r) (now (levels .entry)) (now (levels .exit)) ⌝ }
+    ensures { λ r. ⌜ Answers (levelEntry level «delta_enabled» «delta_update» (now (deltas .entry)) (now («deltas_present» .entry)) «seg_enabled» «abs_or_delta_update» (now («feature_enabled» .entry)) (now («feature_data» .entry)) (now (levels .entry))) (numbersOf r) (now (levels .entry)) (now (levels .exit)) ⌝ }
 {
     if 63 < level {
         return Refusal {
@@ -102,7 +106,7 @@ pub extern "C" fn springspade_level_table(
         };
     }
     if (deltas.len() < 6)
-        | (present.len() < 6)
+        | (deltas_present.len() < 6)
         | (feature_enabled.len() < 32)
         | (feature_data.len() < 32)
         | (levels.len() < 64)
@@ -112,7 +116,7 @@ pub extern "C" fn springspade_level_table(
             place: 0,
         };
     }
-    let lf = loop_filter_params(level, delta_enabled, delta_update, deltas, present);
+    let lf = loop_filter_params(level, delta_enabled, delta_update, deltas, deltas_present);
     let seg = segmentation_params(
         seg_enabled,
         abs_or_delta_update,

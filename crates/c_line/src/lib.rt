@@ -31,17 +31,21 @@ fn refusal_of(answer: LineAnswer) -> Refusal
     }
 }
 
+// Filters 16 samples across an edge in place: p7 to p0, then q0 to q7. taps must point to 16 samples.
+// bit_depth: 8, 10 or 12. filter_size: 0, 1 or 2; it changes at most 2, 3 or 7 samples on each side of the edge.
+// limit, blimit, thresh: as springspade_strength gives them.
+// Refusals: 2 bit_depth not 8, 10, 12; 13 sample >= 1 << bit_depth (place: its tap, 0 to 15); 15 filter_size above 2.
 #[no_mangle]
 pub extern "C" fn springspade_line(
     taps: &mut [u16; 16],
-    depth: u8,
-    size: u8,
+    bit_depth: u8,
+    filter_size: u8,
     limit: u8,
     blimit: u8,
     thresh: u8,
 ) -> Refusal
-    ensures { λ r. ⌜ Answers (line depth size limit blimit thresh (now (taps .entry))) (numbersOf r) (now (taps .entry)) (now (taps .exit)) ⌝ }
+    ensures { λ r. ⌜ Answers (line «bit_depth» «filter_size» limit blimit thresh (now (taps .entry))) (numbersOf r) (now (taps .entry)) (now (taps .exit)) ⌝ }
 {
-    let answer = line::sample_filtering(taps, depth, size, limit, blimit, thresh);
+    let answer = line::sample_filtering(taps, bit_depth, filter_size, limit, blimit, thresh);
     refusal_of(answer)
 }

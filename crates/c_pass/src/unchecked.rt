@@ -9,28 +9,29 @@ use pass::superblock_loop_filter_unchecked;
 use positions::pass_of;
 use window::WindowShape;
 
-// The pass without its tests, for a caller whose pass springspade_pass would accept.
+// As springspade_pass, without its tests and without an answer. The caller must hand over only what springspade_pass
+// would accept; else memory outside samples and cells may be read or written.
 #[no_mangle]
 pub extern "C" fn springspade_pass_unchecked(
     samples: &mut [u16],
     cells: &[u32],
-    sharpness: u8,
-    depth: u8,
-    sub_x: u8,
-    sub_y: u8,
-    mi_cols: usize,
-    mi_rows: usize,
-    row: usize,
-    col: usize,
-    plane: u8,
-    pass: u8,
     width: usize,
     height: usize,
     stride: usize,
     y_origin: usize,
+    sharpness: u8,
+    bit_depth: u8,
+    sub_x: u8,
+    sub_y: u8,
+    mi_cols: usize,
+    mi_rows: usize,
+    mi_row: usize,
+    mi_col: usize,
+    plane: u8,
+    pass: u8,
 )
-    requires { ⌜ superblockLoopFilterCells (record { width = width; height = height; stride = stride; top = «y_origin» }) sharpness depth «sub_x» «sub_y» «mi_cols» «mi_rows» row col plane pass (now cells) (now samples) ≡ accepted (superblockLoopFilter (record { width = width; height = height; stride = stride; top = «y_origin» }) (settingOf sharpness depth «sub_x» «sub_y» «mi_cols» «mi_rows» row col plane (now cells)) (passOf pass) (now samples)) ⌝ }
-    ensures { λ r. ⌜ accepted (now (samples .exit)) ≡ superblockLoopFilterCells (record { width = width; height = height; stride = stride; top = «y_origin» }) sharpness depth «sub_x» «sub_y» «mi_cols» «mi_rows» row col plane pass (now (cells .entry)) (now (samples .entry)) ⌝ }
+    requires { ⌜ superblockLoopFilterCells (record { width = width; height = height; stride = stride; top = «y_origin» }) sharpness «bit_depth» «sub_x» «sub_y» «mi_cols» «mi_rows» «mi_row» «mi_col» plane pass (now cells) (now samples) ≡ accepted (superblockLoopFilter (record { width = width; height = height; stride = stride; top = «y_origin» }) (settingOf sharpness «bit_depth» «sub_x» «sub_y» «mi_cols» «mi_rows» «mi_row» «mi_col» plane (now cells)) (passOf pass) (now samples)) ⌝ }
+    ensures { λ r. ⌜ accepted (now (samples .exit)) ≡ superblockLoopFilterCells (record { width = width; height = height; stride = stride; top = «y_origin» }) sharpness «bit_depth» «sub_x» «sub_y» «mi_cols» «mi_rows» «mi_row» «mi_col» plane pass (now (cells .entry)) (now (samples .entry)) ⌝ }
 {
     let g = WindowShape {
         width,
@@ -38,7 +39,7 @@ pub extern "C" fn springspade_pass_unchecked(
         stride,
         top: y_origin,
     };
-    let s = superblock_of(sub_x, sub_y, mi_cols, mi_rows, row, col, plane);
+    let s = superblock_of(sub_x, sub_y, mi_cols, mi_rows, mi_row, mi_col, plane);
     superblock_loop_filter_unchecked(
         samples,
         g,
@@ -47,6 +48,6 @@ pub extern "C" fn springspade_pass_unchecked(
         pass_of(pass),
         0 < plane,
         sharpness,
-        depth,
+        bit_depth,
     );
 }

@@ -11,7 +11,7 @@ use c_pass::refusal_of;
 use plane_window::numbers::PassNumbers;
 use plane_window::pass_plane;
 
-// As springspade_pass, through a record that holds the samples.
+// As springspade_pass, with the numbers behind the window in a record.
 #[no_mangle]
 pub extern "C" fn springspade_pass_window(
     samples: &mut [u16],
@@ -19,11 +19,11 @@ pub extern "C" fn springspade_pass_window(
     width: usize,
     height: usize,
     stride: usize,
-    top: usize,
-    p: PassNumbers,
+    y_origin: usize,
+    numbers: PassNumbers,
 ) -> Refusal
-    ensures { λ r. ⌜ Answers (passOver (shape width height stride top) p (now (cells .entry)) (now (samples .entry))) (numbersOf r) (now (samples .entry)) (now (samples .exit)) ⌝ }
+    ensures { λ r. ⌜ Answers (passOver (shape width height stride «y_origin») numbers (now (cells .entry)) (now (samples .entry))) (numbersOf r) (now (samples .entry)) (now (samples .exit)) ⌝ }
 {
-    let answer = pass_plane(samples, cells, width, height, stride, top, p);
+    let answer = pass_plane(samples, cells, width, height, stride, y_origin, numbers);
     refusal_of(answer)
 }

@@ -9,18 +9,19 @@ use cell_records::CellRecord;
 use plane_window::numbers::PassNumbers;
 use record_pass::pass_records;
 
-// As springspade_pass, the words being those that the records pack to.
+// As springspade_pass, over cell records in place of words, with the numbers behind the window in a record.
+// Refusal 11 is also for a record with a field too large (place: record). Needs somewhat over 256 KiB of stack.
 #[no_mangle]
 pub extern "C" fn springspade_pass_records(
-    records: &[CellRecord],
     samples: &mut [u16],
+    records: &[CellRecord],
     width: usize,
     height: usize,
     stride: usize,
-    top: usize,
-    p: PassNumbers,
+    y_origin: usize,
+    numbers: PassNumbers,
 ) -> Refusal
-    ensures { λ r. ⌜ Answers (passRecords (shape width height stride top) p (now (records .entry)) (now (samples .entry))) (numbersOf r) (now (samples .entry)) (now (samples .exit)) ⌝ }
+    ensures { λ r. ⌜ Answers (passRecords (shape width height stride «y_origin») numbers (now (records .entry)) (now (samples .entry))) (numbersOf r) (now (samples .entry)) (now (samples .exit)) ⌝ }
 {
-    refusal_of(pass_records(records, samples, width, height, stride, top, p))
+    refusal_of(pass_records(samples, records, width, height, stride, y_origin, numbers))
 }

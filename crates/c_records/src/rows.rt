@@ -9,7 +9,8 @@ use cell_records::CellRecord;
 use record_row::RowNumbers;
 use record_row::row_records;
 
-// As springspade_row, its words given as the records that they are.
+// As springspade_row, into cell records in place of words, with the numbers in a record.
+// Records behind the row's cells are left. Needs somewhat over 256 KiB of stack.
 #[no_mangle]
 pub extern "C" fn springspade_row_records(
     mi_sizes: &[u8],

@@ -26,7 +26,12 @@ pub fn refusal_of(answer: RowAnswer) -> Refusal
     }
 }
 
-// The lists start at the row's first cell. Words behind the row's cells are left.
+// Packs the cells of the superblock row at mi_row into the front of cells; words behind them are left.
+// mi_row, mi_cols, mi_rows count 8 luma samples. The lists start at the row's first cell, row by row, mi_cols to a row,
+// min(8, mi_rows - mi_row) rows: mi_sizes 0 (4x4) to 12 (64x64), tx_sizes 0 (4x4) to 3 (32x32), skips 0 or 1,
+// ref_frames 0 intra, 1 last, 2 golden, 3 altref, segment_ids 0 to 7. levels: the 64 of springspade_level_table.
+// Refusals: 1 sharpness above 7; 2 bit_depth not 8, 10, 12; 3 sub_x, sub_y above 1; 4 mi_cols, mi_rows 0 or above 8192;
+// 5 mi_row no multiple of 8 below mi_rows; 6 level above 63 (place: entry); 7 short list; 8 bad cell (place: cell).
 #[no_mangle]
 pub extern "C" fn springspade_row(
     mi_sizes: &[u8],
@@ -37,15 +42,15 @@ pub extern "C" fn springspade_row(
     segment_ids: &[u8],
     levels: &[u8; 64],
     sharpness: u8,
-    depth: u8,
+    bit_depth: u8,
     sub_x: u8,
     sub_y: u8,
     mi_cols: usize,
     mi_rows: usize,
-    base: usize,
+    mi_row: usize,
     cells: &mut [u32],
 ) -> Refusal
-    ensures { λ r. ⌜ Answers (row (modeInfo (now («mi_sizes» .entry)) (now («tx_sizes» .entry)) (now (skips .entry)) (now («ref_frames» .entry)) (now («y_modes» .entry)) (now («segment_ids» .entry))) (now (levels .entry)) sharpness depth «sub_x» «sub_y» «mi_cols» «mi_rows» base (now (cells .entry))) (numbersOf r) (now (cells .entry)) (now (cells .exit)) ⌝ }
+    ensures { λ r. ⌜ Answers (row (modeInfo (now («mi_sizes» .entry)) (now («tx_sizes» .entry)) (now (skips .entry)) (now («ref_frames» .entry)) (now («y_modes» .entry)) (now («segment_ids» .entry))) (now (levels .entry)) sharpness «bit_depth» «sub_x» «sub_y» «mi_cols» «mi_rows» «mi_row» (now (cells .entry))) (numbersOf r) (now (cells .entry)) (now (cells .exit)) ⌝ }
 {
     let answer = row::row_cells(
         mi_sizes,
@@ -56,18 +61,18 @@ pub extern "C" fn springspade_row(
         segment_ids,
         levels,
         sharpness,
-        depth,
+        bit_depth,
         sub_x,
         sub_y,
         mi_cols,
         mi_rows,
-        base,
+        mi_row,
         cells,
     );
     refusal_of(answer)
 }
 
-// The fields of any word.
+// The fields of a cell's word. Takes any word; its low 12 bits are not read.
 #[no_mangle]
 pub extern "C" fn springspade_cell(word: u32) -> LfCell
     ensures { λ r. ⌜ r ≡ cellOf word ⌝ }

@@ -5,7 +5,8 @@ ghost use Rattle.strength.specs.Strength.{modeType, strengthFor};
 ghost use Rattle.c_strength.specs.StrengthEntry.{entryOf};
 use strength::StrengthAnswer;
 
-// Number and place of a refusal, or 0 and 0 with the values.
+// The answer of springspade_strength: number and place 0 with the three values, or the number of the refusal with
+// zeros. The values are those of 8 bits; springspade_line scales them to its bit_depth.
 #[repr(C)]
 pub struct Strength {
     pub number: u32,
@@ -27,11 +28,13 @@ fn refusal(number: u32) -> Strength
     }
 }
 
+// The strength of the line filter for a level, 0 to 63, and the frame's sharpness, 0 to 7.
+// Refusals: 1 sharpness above 7; 6 level above 63.
 #[no_mangle]
-pub extern "C" fn springspade_strength(lvl: u8, sharpness: u8) -> Strength
-    ensures { λ r. ⌜ r ≡ entryOf (strengthFor lvl sharpness) ⌝ }
+pub extern "C" fn springspade_strength(level: u8, sharpness: u8) -> Strength
+    ensures { λ r. ⌜ r ≡ entryOf (strengthFor level sharpness) ⌝ }
 {
-    match strength::strength_for_level(lvl, sharpness) {
+    match strength::strength_for_level(level, sharpness) {
         StrengthAnswer::Done(s) => Strength {
             number: 0,
             place: 0,
@@ -44,9 +47,10 @@ pub extern "C" fn springspade_strength(lvl: u8, sharpness: u8) -> Strength
     }
 }
 
+// The mode type of a mode: 1 for NEARESTMV (10), NEARMV (11) and NEWMV (13), 0 for any other number.
 #[no_mangle]
-pub extern "C" fn springspade_mode_type(mode: u8) -> usize
-    ensures { λ r. ⌜ r ≡ modeType mode ⌝ }
+pub extern "C" fn springspade_mode_type(y_mode: u8) -> usize
+    ensures { λ r. ⌜ r ≡ modeType «y_mode» ⌝ }
 {
-    strength::mode_to_mode_type(mode)
+    strength::mode_to_mode_type(y_mode)
 }

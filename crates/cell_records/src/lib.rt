@@ -5,7 +5,7 @@ ghost use Rattle.cell_records.specs.CellRecord.{tooLarge, wordOf, record
 use cells::LfCell;
 use cells::pack_unchecked;
 
-// The fields of a packed cell, a byte each. A flag is 0 or 1.
+// A cell as LfCell, with a byte for each field: skipped and present are 0 or 1.
 #[repr(C)]
 pub struct CellRecord {
     pub width0: u8,

@@ -7,18 +7,23 @@ ghost use lib.ListN.{length};
 ghost use Rattle.base.specs.First.{first, found};
 ghost use Rattle.cells.specs.Cell.{bit, packed, cellOf, badWord, badCell, Fields};
 
-// What the pass reads of a cell: logarithms of width and height in 8-sample blocks, for subsampling 0 and 1; transform and chroma
-// transform; document 01's skipped-inter, which is skip set and not intra, and level present; and the level, 0 where there is none.
+// What the pass reads of a cell. The logarithms are 0 to 3.
 #[repr(C)]
 pub struct LfCell {
+    // Logarithm of the block's width in units of 8 luma samples, where the plane is not subsampled and where it is.
     pub width0: u8,
     pub width1: u8,
+    // The same of its height.
     pub height0: u8,
     pub height1: u8,
+    // The transform in plane 0, and in planes 1 and 2: 0 (4x4) to 3 (32x32).
     pub tx: u8,
     pub uvtx: u8,
+    // Skip is set, and the block is inter.
     pub skipped: bool,
+    // The cell has a level.
     pub present: bool,
+    // 0 to 63; 0 where there is none.
     pub level: u8,
 }
 

@@ -7,9 +7,9 @@ use Rattle.pass.specs.Pass.{superblockLoopFilterCells}
 use Rattle.window.specs.declared.WindowShape.{WindowShape}
 use Rattle.plane_window.specs.declared.numbers.PassNumbers.{PassNumbers}
 
-abbrev pub shape : (width height stride top : ℕ) → WindowShape
-shape width height stride top = record { width = width; height = height; stride = stride; top = top }
+abbrev pub shape : (width height stride yOrigin : ℕ) → WindowShape
+shape width height stride yOrigin = record { width = width; height = height; stride = stride; top = yOrigin }
 
 abbrev pub passOver : WindowShape → PassNumbers → (cells samples : List ℕ) → Outcome (List ℕ)
 passOver g p cells samples =
-    superblockLoopFilterCells g (p .sharpness) (p .depth) (p .subx) (p .suby) (p .cols) (p .rows) (p .row) (p .col) (p .plane) (p .pass) cells samples
+    superblockLoopFilterCells g (p .sharpness) (p .«bit_depth») (p .«sub_x») (p .«sub_y») (p .«mi_cols») (p .«mi_rows») (p .«mi_row») (p .«mi_col») (p .plane) (p .pass) cells samples

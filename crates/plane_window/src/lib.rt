@@ -10,13 +10,13 @@ use faults::PassAnswer;
 use numbers::PassNumbers;
 use numbers::pass_numbers;
 
-// Height rows of width samples, stride apart, the first at the plane's row top.
+// Height rows of width samples, stride apart, the first at the plane's row y_origin.
 pub struct PlaneWindow<'a> {
     pub samples: &'a mut [u16],
     pub width: usize,
     pub height: usize,
     pub stride: usize,
-    pub top: usize,
+    pub y_origin: usize,
 }
 
 // The record is made.
@@ -25,22 +25,22 @@ pub fn window_of<'a>(
     width: usize,
     height: usize,
     stride: usize,
-    top: usize,
+    y_origin: usize,
 ) -> PlaneWindow<'a>
-    ensures { λ r. ⌜ (r .samples ≡ samples .entry) × (r .width ≡ width) × (r .height ≡ height) × (r .stride ≡ stride) × (r .top ≡ top) ⌝ }
+    ensures { λ r. ⌜ (r .samples ≡ samples .entry) × (r .width ≡ width) × (r .height ≡ height) × (r .stride ≡ stride) × (r .«y_origin» ≡ «y_origin») ⌝ }
 {
     PlaneWindow {
         samples,
         width,
         height,
         stride,
-        top,
+        y_origin,
     }
 }
 
 // The record is taken apart: slice and numbers go to the pass.
 pub fn pass_window<'a, 'b>(w: PlaneWindow<'a>, cells: &'b [u32], p: PassNumbers) -> PassAnswer
-    ensures { λ r. ⌜ Answers (passOver (shape (w .entry .width) (w .entry .height) (w .entry .stride) (w .entry .top)) p (now (cells .entry)) (now (w .entry .samples))) (returnedOf r) (now (w .entry .samples)) (now (w .exit .0)) ⌝ }
+    ensures { λ r. ⌜ Answers (passOver (shape (w .entry .width) (w .entry .height) (w .entry .stride) (w .entry .«y_origin»)) p (now (cells .entry)) (now (w .entry .samples))) (returnedOf r) (now (w .entry .samples)) (now (w .exit .0)) ⌝ }
 {
     pass_numbers(
         &mut *w.samples,
@@ -48,7 +48,7 @@ pub fn pass_window<'a, 'b>(w: PlaneWindow<'a>, cells: &'b [u32], p: PassNumbers)
         w.width,
         w.height,
         w.stride,
-        w.top,
+        w.y_origin,
         p,
     )
 }
@@ -60,10 +60,14 @@ pub fn pass_plane(
     width: usize,
     height: usize,
     stride: usize,
-    top: usize,
+    y_origin: usize,
     p: PassNumbers,
 ) -> PassAnswer
-    ensures { λ r. ⌜ Answers (passOver (shape width height stride top) p (now (cells .entry)) (now (samples .entry))) (returnedOf r) (now (samples .entry)) (now (samples .exit)) ⌝ }
+    ensures { λ r. ⌜ Answers (passOver (shape width height stride «y_origin») p (now (cells .entry)) (now (samples .entry))) (returnedOf r) (now (samples .entry)) (now (samples .exit)) ⌝ }
 {
-    pass_window(window_of(samples, width, height, stride, top), cells, p)
+    pass_window(
+        window_of(samples, width, height, stride, y_origin),
+        cells,
+        p,
+    )
 }

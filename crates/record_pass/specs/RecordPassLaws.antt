@@ -69,4 +69,4 @@ pub pass-stored : (g : WindowShape) (p : PassNumbers) (records : List CellRecord
     → passOver g p (take (length records) (filled (recordWord records) 0 (length records) l)) samples ≡ passRecords g p records samples
 pass-stored g p records l samples e =
     ap (λ (words : List ℕ). passOver g p words samples) (words-stored records l e)
-    ∙ pass-front g (p .sharpness) (p .depth) (p .subx) (p .suby) (p .cols) (p .rows) (p .row) (p .col) (p .plane) (p .pass) (wordsOf records) samples
+    ∙ pass-front g (p .sharpness) (p .«bit_depth») (p .«sub_x») (p .«sub_y») (p .«mi_cols») (p .«mi_rows») (p .«mi_row») (p .«mi_col») (p .plane) (p .pass) (wordsOf records) samples

@@ -36,37 +36,37 @@ fn fill(records: &[CellRecord], words: &mut [u32])
 
 // The pass over the first words, `lent` of them, or all where there are fewer.
 fn pass_words(
+    samples: &mut [u16],
     words: &[u32],
     lent: usize,
-    samples: &mut [u16],
     width: usize,
     height: usize,
     stride: usize,
-    top: usize,
+    y_origin: usize,
     p: PassNumbers,
 ) -> PassAnswer
-    ensures { λ r. ⌜ Answers (passOver (shape width height stride top) p (take lent (now (words .entry))) (now (samples .entry))) (returnedOf r) (now (samples .entry)) (now (samples .exit)) ⌝ }
+    ensures { λ r. ⌜ Answers (passOver (shape width height stride «y_origin») p (take lent (now (words .entry))) (now (samples .entry))) (returnedOf r) (now (samples .entry)) (now (samples .exit)) ⌝ }
 {
     if words.len() < lent {
-        return pass_numbers(samples, words, width, height, stride, top, p);
+        return pass_numbers(samples, words, width, height, stride, y_origin, p);
     }
-    pass_numbers(samples, &words[..lent], width, height, stride, top, p)
+    pass_numbers(samples, &words[..lent], width, height, stride, y_origin, p)
 }
 
 // The pass over records. The words are a local, so that no lent memory but the samples changes; a row has at most 65,536 cells.
 pub fn pass_records(
-    records: &[CellRecord],
     samples: &mut [u16],
+    records: &[CellRecord],
     width: usize,
     height: usize,
     stride: usize,
-    top: usize,
+    y_origin: usize,
     p: PassNumbers,
 ) -> PassAnswer
-    ensures { λ r. ⌜ Answers (passRecords (shape width height stride top) p (now (records .entry)) (now (samples .entry))) (returnedOf r) (now (samples .entry)) (now (samples .exit)) ⌝ }
+    ensures { λ r. ⌜ Answers (passRecords (shape width height stride «y_origin») p (now (records .entry)) (now (samples .entry))) (returnedOf r) (now (samples .entry)) (now (samples .exit)) ⌝ }
 {
     let n = records.len();
     let mut words = [0u32; 65536];
     fill(records, &mut words);
-    pass_words(&words, n, samples, width, height, stride, top, p)
+    pass_words(samples, &words, n, width, height, stride, y_origin, p)
 }

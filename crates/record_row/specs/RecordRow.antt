@@ -20,10 +20,10 @@ stored words (suc n) records = set (stored words n records) n (recordOf (getD wo
 
 -- the row with its numbers in a record
 abbrev pub rowWith : ModeInfo → (levels : List ℕ) → RowNumbers → (cells : List ℕ) → Outcome (List ℕ)
-rowWith m levels p cells = row m levels (p .sharpness) (p .depth) (p .subx) (p .suby) (p .cols) (p .rows) (p .base) cells
+rowWith m levels p cells = row m levels (p .sharpness) (p .«bit_depth») (p .«sub_x») (p .«sub_y») (p .«mi_cols») (p .«mi_rows») (p .«mi_row») cells
 
 abbrev pub cellsIn : RowNumbers → ℕ
-cellsIn p = cellsFrom (p .base) (p .cols) (p .rows)
+cellsIn p = cellsFrom (p .«mi_row») (p .«mi_cols») (p .«mi_rows»)
 
 -- what the row's words become: the first n of them are stored as records. A refusal is passed on
 abbrev pub asRecords : Outcome (List ℕ) → ℕ → List CellRecord → Outcome (List CellRecord)
@@ -52,4 +52,4 @@ madeOf (Block k) p = 0
 
 -- where the row was not refused, its numbers passed the tests
 abbrev pub Fits : RowAnswer → RowNumbers → Type 0
-Fits answer p = answer ≡ Done → (p .base ≤ p .rows) × (p .cols ≤ 8192)
+Fits answer p = answer ≡ Done → (p .«mi_row» ≤ p .«mi_rows») × (p .«mi_cols» ≤ 8192)

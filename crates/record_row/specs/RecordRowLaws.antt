@@ -52,27 +52,27 @@ refuse-off true number place after h e = absurd (omega (arith, h, e))
 refuse-off false number place after h e = (refl, e)
 
 pub record Made (m : ModeInfo) (levels : List ℕ) (p : RowNumbers) (ws : List ℕ) : Type 0 where
-  pub result : rowWith m levels p ws ≡ accepted (filled (wordAt m levels (eqb (p .subx) 1) (eqb (p .suby) 1)) 0 (cellsIn p) ws)
-  pub starts : p .base ≤ p .rows
-  pub narrow : p .cols ≤ 8192
+  pub result : rowWith m levels p ws ≡ accepted (filled (wordAt m levels (eqb (p .«sub_x») 1) (eqb (p .«sub_y») 1)) 0 (cellsIn p) ws)
+  pub starts : p .«mi_row» ≤ p .«mi_rows»
+  pub narrow : p .«mi_cols» ≤ 8192
   pub lent : cellsIn p ≤ length ws
 
 pub made : (m : ModeInfo) (levels : List ℕ) (p : RowNumbers) (ws : List ℕ) → 0 ≡ returned (rowWith m levels p ws) .number → Made m levels p ws
 unfolding row
 made m levels p ws e =
     let s1 = refuse-off (ltb 7 (p .sharpness)) 1 0 _ (lit< tt) e in
-    let s2 = refuse-off (not (supported (p .depth))) 2 0 _ (lit< tt) (s1 .1) in
-    let s3 = refuse-off (badSubsampling (p .subx) (p .suby)) 3 0 _ (lit< tt) (s2 .1) in
-    let s4 = refuse-off (badFrameSize (p .cols) (p .rows)) 4 0 _ (lit< tt) (s3 .1) in
-    let s5 = refuse-off (badStart (p .base) (p .rows)) 5 0 _ (lit< tt) (s4 .1) in
+    let s2 = refuse-off (not (supported (p .«bit_depth»))) 2 0 _ (lit< tt) (s1 .1) in
+    let s3 = refuse-off (badSubsampling (p .«sub_x») (p .«sub_y»)) 3 0 _ (lit< tt) (s2 .1) in
+    let s4 = refuse-off (badFrameSize (p .«mi_cols») (p .«mi_rows»)) 4 0 _ (lit< tt) (s3 .1) in
+    let s5 = refuse-off (badStart (p .«mi_row») (p .«mi_rows»)) 5 0 _ (lit< tt) (s4 .1) in
     let s6 = refuse-off (found (badLevel levels) 64) 6 (first (badLevel levels) 64) _ (lit< tt) (s5 .1) in
     let s7 = refuse-off (tooShort m ws (cellsIn p)) 7 0 _ (lit< tt) (s6 .1) in
     let s8 = refuse-off (found (badAt m) (cellsIn p)) 8 (first (badAt m) (cellsIn p)) _ (lit< tt) (s7 .1) in
-    let below = started (p .base) (p .rows) (s5 .0) .below in
+    let below = started (p .«mi_row») (p .«mi_rows») (s5 .0) .below in
     record {
-      result = row-filled m levels (p .sharpness) (p .depth) (p .subx) (p .suby) (p .cols) (p .rows) (p .base) ws (ltb-false 7 (p .sharpness) (s1 .0)) (not-false (supported (p .depth)) (s2 .0)) (s3 .0) (s4 .0) (s5 .0) (s6 .0) (s7 .0) (s8 .0);
+      result = row-filled m levels (p .sharpness) (p .«bit_depth») (p .«sub_x») (p .«sub_y») (p .«mi_cols») (p .«mi_rows») (p .«mi_row») ws (ltb-false 7 (p .sharpness) (s1 .0)) (not-false (supported (p .«bit_depth»)) (s2 .0)) (s3 .0) (s4 .0) (s5 .0) (s6 .0) (s7 .0) (s8 .0);
       starts = omega (arith, below);
-      narrow = sized (p .cols) (p .rows) (s4 .0) .cols;
+      narrow = sized (p .«mi_cols») (p .«mi_rows») (s4 .0) .cols;
       lent = long m ws (cellsIn p) (s7 .0) .cells;
     }
 

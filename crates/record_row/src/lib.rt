@@ -41,16 +41,16 @@ fn store_records_unchecked(words: &[u32], count: usize, records: &mut [CellRecor
     }
 }
 
-// What the row is told of the frame.
+// The numbers of springspade_row: the frame's, and the row's.
 #[repr(C)]
 pub struct RowNumbers {
     pub sharpness: u8,
-    pub depth: u8,
-    pub subx: u8,
-    pub suby: u8,
-    pub cols: usize,
-    pub rows: usize,
-    pub base: usize,
+    pub bit_depth: u8,
+    pub sub_x: u8,
+    pub sub_y: u8,
+    pub mi_cols: usize,
+    pub mi_rows: usize,
+    pub mi_row: usize,
 }
 
 // The lesser of two numbers.
@@ -85,12 +85,12 @@ fn row_words(
         segment_ids,
         levels,
         p.sharpness,
-        p.depth,
-        p.subx,
-        p.suby,
-        p.cols,
-        p.rows,
-        p.base,
+        p.bit_depth,
+        p.sub_x,
+        p.sub_y,
+        p.mi_cols,
+        p.mi_rows,
+        p.mi_row,
         &mut words[..n],
     )
 }
@@ -101,7 +101,7 @@ fn made_unchecked(answer: RowAnswer, p: RowNumbers) -> usize
     ensures { λ r. ⌜ r ≡ madeOf answer p ⌝ }
 {
     match answer {
-        RowAnswer::Done => cell_count_unchecked(p.base, p.cols, p.rows),
+        RowAnswer::Done => cell_count_unchecked(p.mi_row, p.mi_cols, p.mi_rows),
         _ => 0,
     }
 }

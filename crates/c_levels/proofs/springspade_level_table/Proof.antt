@@ -26,10 +26,10 @@ long a b c d e h =
     let s1 = neither (ltb a 6) (s2 .0) in
     record { deltas-long = ltb-false a 6 (s1 .0); present-long = ltb-false b 6 (s1 .1); on-long = ltb-false c 32 (s2 .1); features-long = ltb-false d 32 (s3 .1); levels-long = ltb-false e 64 (s4 .1) }
 
-past-tests : (c : tie.Else2) → let a = c .before .before .before .before .before .args in Long (length (a .deltas .now)) (length (a .present .now)) (length (a .feature-enabled .now)) (length (a .feature-data .now)) (length (a .levels .now))
+past-tests : (c : tie.Else2) → let a = c .before .before .before .before .before .args in Long (length (a .deltas .now)) (length (a .deltas-present .now)) (length (a .feature-enabled .now)) (length (a .feature-data .now)) (length (a .levels .now))
 past-tests c =
     let a = c .before .before .before .before .before .args in
-    long (length (a .deltas .now)) (length (a .present .now)) (length (a .feature-enabled .now)) (length (a .feature-data .now)) (length (a .levels .now)) (c .if2 .left)
+    long (length (a .deltas .now)) (length (a .deltas-present .now)) (length (a .feature-enabled .now)) (length (a .feature-data .now)) (length (a .levels .now)) (c .if2 .left)
 
 returns : tie.Need-returns
 unfolding levelEntry

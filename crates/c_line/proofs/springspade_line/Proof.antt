@@ -8,7 +8,7 @@ use Rattle.c_line.proofs.springspade_line.Tie as tie
 refusal-of-requires : tie.Need-refusal-of-requires
 refusal-of-requires c κs =
     let a = c .before .before .args in
-    rw (c .sample-filtering .ensures .0) (line-place (a .depth) (a .size) (a .limit) (a .blimit) (a .thresh) (now (a .taps)))
+    rw (c .sample-filtering .ensures .0) (line-place (a .bit-depth) (a .filter-size) (a .limit) (a .blimit) (a .thresh) (now (a .taps)))
 
 returns : tie.Need-returns
 returns c =

@@ -14,7 +14,7 @@ returns c =
     let a = c .before .before .before .before .before .before .before .args in
     let place : returnedOf (f .result) .place ≤ 4294967295 =
     rw (f .ensures .0)
-    (pass-place (record { width = a .width; height = a .height; stride = a .stride; top = a .y-origin }) (a .sharpness) (a .depth) (a .sub-x) (a .sub-y) (a .mi-cols) (a .mi-rows) (a .row) (a .col) (a .plane) (a .pass) (now (a .cells)) (now (a .samples))) in
+    (pass-place (record { width = a .width; height = a .height; stride = a .stride; top = a .y-origin }) (a .sharpness) (a .bit-depth) (a .sub-x) (a .sub-y) (a .mi-cols) (a .mi-rows) (a .mi-row) (a .mi-col) (a .plane) (a .pass) (now (a .cells)) (now (a .samples))) in
     (c .refusal-of .ensures ∙ crossing-small (returnedOf (f .result)) place ∙ f .ensures .0, f .ensures .1)
 
 pub springspade-pass-spec : {M : Type 1} → statement M

@@ -13,10 +13,10 @@ returns : tie.Need-returns
 returns c =
     let f = c .before .before .before .pass-plane in
     let a = c .before .before .before .before .before .before .before .args in
-    let p = a .p in
+    let p = a .numbers in
     let place : returnedOf (f .result) .place ≤ 4294967295 =
     rw (f .ensures .0)
-    (pass-place (shape (a .width) (a .height) (a .stride) (a .top)) (p .sharpness) (p .depth) (p .subx) (p .suby) (p .cols) (p .rows) (p .row) (p .col) (p .plane) (p .pass) (now (a .cells)) (now (a .samples))) in
+    (pass-place (shape (a .width) (a .height) (a .stride) (a .y-origin)) (p .sharpness) (p .«bit_depth») (p .«sub_x») (p .«sub_y») (p .«mi_cols») (p .«mi_rows») (p .«mi_row») (p .«mi_col») (p .plane) (p .pass) (now (a .cells)) (now (a .samples))) in
     (c .refusal-of .ensures ∙ crossing-small (returnedOf (f .result)) place ∙ f .ensures .0, f .ensures .1)
 
 pub springspade-pass-window-spec : {M : Type 1} → statement M

@@ -13,7 +13,7 @@ returns : tie.Need-returns
 returns c =
     let f = c .before .before .before .row-cells in
     let a = c .before .before .before .before .before .before .before .before .before .before .before .args in
-    let small = row-place (modeInfo (now (a .mi-sizes)) (now (a .tx-sizes)) (now (a .skips)) (now (a .ref-frames)) (now (a .y-modes)) (now (a .segment-ids))) (now (a .levels)) (a .sharpness) (a .depth) (a .sub-x) (a .sub-y) (a .mi-cols) (a .mi-rows) (a .base) (now (a .cells)) in
+    let small = row-place (modeInfo (now (a .mi-sizes)) (now (a .tx-sizes)) (now (a .skips)) (now (a .ref-frames)) (now (a .y-modes)) (now (a .segment-ids))) (now (a .levels)) (a .sharpness) (a .bit-depth) (a .sub-x) (a .sub-y) (a .mi-cols) (a .mi-rows) (a .mi-row) (now (a .cells)) in
     let place : returnedOf (f .result) .place ≤ 4294967295 = rw (f .ensures .0) (omega arith) in
     (c .refusal-of .ensures ∙ crossing-small (returnedOf (f .result)) place ∙ f .ensures .0, f .ensures .1)
 

@@ -106,7 +106,7 @@ module _ {M : Type 1} (𝓤 : URA M) (H : Heap 𝓤) (A : Atoms 𝓤) (W : Given
 
   -- the record that `window_of` returns
   abbrev h : PlaneWindow
-  h = record { samples = x; width = n₁; height = n₂; stride = n₃; top = n₄ }
+  h = record { samples = x; width = n₁; height = n₂; stride = n₃; «y_origin» = n₄ }
 
   -- what is to be shown of the answer r and the last list zs
   abbrev Said : PassAnswer → List ℕ → Type 0
@@ -151,7 +151,7 @@ module _ {M : Type 1} (𝓤 : URA M) (H : Heap 𝓤) (A : Atoms 𝓤) (W : Given
 
   -- of what `window_of` ensures, the clause alone: it has no last value
   abbrev Same : PlaneWindow → Type 0
-  Same r = (r .samples ≡ x) × (r .width ≡ n₁) × (r .height ≡ n₂) × (r .stride ≡ n₃) × (r .top ≡ n₄)
+  Same r = (r .samples ≡ x) × (r .width ≡ n₁) × (r .height ≡ n₂) × (r .stride ≡ n₃) × (r .«y_origin» ≡ n₄)
 
   made-of : (r : PlaneWindow) → ent 𝓤 (ensured 𝓤 H A window-of.ended (window-of.clauses 𝓤 H A mem run) (κ, tt) made tt r) (fact 𝓤 (Same r))
   made-of r = exE 𝓤 _ (λ ws. snd∗ 𝓤 (sem 𝓤 H A (lasts window-of.ended (κ, tt) made ws)) (fact 𝓤 (Same r)))
@@ -202,7 +202,7 @@ module _ {M : Type 1} (𝓤 : URA M) (H : Heap 𝓤) (A : Atoms 𝓤) (W : Given
         calls-at ! fm (Make 𝓤 H A mem run) known-make to-make (and-then ! (load ! (from ! (stop !)) (look ! 5 refl)) (and-then ! (load ! (from ! (stop !)) (look ! 19 refl)) (and-then ! (load ! (from ! (stop !)) (look ! 17 refl)) (and-then ! (load ! (from ! (stop !)) (look ! 15 refl)) (and-then ! (load ! (from ! (stop !)) (look ! 13 refl)) (no-more !)))))) (λ w₀.
         use1 W (later (some (λ (r : PlaneWindow). ((‵ (flft κ q) ⊛ ‵ ftrue) ⊛ ‵ (T.the-row α .own r (w₀ ∷ []))) ⊛ raw (ensured 𝓤 H A window-of.ended (window-of.clauses 𝓤 H A mem run) (κ, tt) made tt r)))) (id⊢ 𝓤 _) $ await ! tt $ pick ! (λ r₀.
         split ! $ move ! (1 ∷ []) $ use1 W (raw (fact 𝓤 (Same r₀))) (made-of r₀) $ heard ! (Same r₀) (λ e₀.
-        split ! $ rewrite ! 1 (λ (h : PlaneWindow). ‵ (T.the-row α .own h (w₀ ∷ []))) (λ i. record { samples = e₀ .0 i; width = e₀ .1 i; height = e₀ .2 i; stride = e₀ .3 i; top = e₀ .4 i }) refl $
+        split ! $ rewrite ! 1 (λ (h : PlaneWindow). ‵ (T.the-row α .own h (w₀ ∷ []))) (λ i. record { samples = e₀ .0 i; width = e₀ .1 i; height = e₀ .2 i; stride = e₀ .3 i; «y_origin» = e₀ .4 i }) refl $
         move ! (1 ∷ []) $ peeks ! (T.the-row α) (Is (T.the-row α)) (shows 𝓤 H A (T.the-row α)) h (w₀ ∷ []) (λ is₀. land ! (from ! (stop !)) (init ! 10 refl (typed w₀ is₀)) $
         -- [the record's; the first token; the second; cells'; cells'; the numbers'; _10; …]: `pass_window`
         move ! (1 ∷ 2 ∷ []) $ join ! $ use3 W (raw (On 𝓤 H A mem run .pre (to-on w₀))) (goes-on w₀) $

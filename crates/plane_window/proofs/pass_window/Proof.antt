@@ -89,7 +89,7 @@ module _ {M : Type 1} (𝓤 : URA M) (H : Heap 𝓤) (A : Atoms 𝓤) (W : Given
   x = record { ptr = (b, o); name = γ; now = ys }
 
   abbrev h : PlaneWindow
-  h = record { samples = x; width = n₁; height = n₂; stride = n₃; top = n₄ }
+  h = record { samples = x; width = n₁; height = n₂; stride = n₃; «y_origin» = n₄ }
 
   -- what is to be shown of the answer r and the last list zs
   abbrev Said : PassAnswer → List ℕ → Type 0
@@ -188,7 +188,7 @@ module _ {M : Type 1} (𝓤 : URA M) (H : Heap 𝓤) (A : Atoms 𝓤) (W : Given
       (λ κs. (LL.vals (T.the-type (namedLft 2 0 tt κs)) (T′.the-laws (namedLft 2 0 tt κs)), (slice-vals, (spell, tt)))) (λ κs. (LL.tells (T.the-type (namedLft 2 0 tt κs)) (T′.the-laws (namedLft 2 0 tt κs)), (shr-slice-tells (named 1) (κs .1 .0) u32, (tell, tt))))
       (λ κs qs bounds a g are. via 𝓤 _ (fst∗ 𝓤 _ (emp 𝓤))
       (let fields = LL.owed (T.the-type (namedLft 2 0 tt κs)) (T′.the-laws (namedLft 2 0 tt κs)) (a .0) _ (are .0) in
-      walk 𝓤 H A W mem run (κs .0) (κs .1 .0) (qs .0) (qs .1 .0) (a .0 .samples .ptr .0) (a .0 .samples .ptr .1) (a .0 .samples .name) (a .0 .samples .now) (a .0 .width) (a .0 .height) (a .0 .stride) (a .0 .top) (a .1 .0) (a .1 .1 .0)
+      walk 𝓤 H A W mem run (κs .0) (κs .1 .0) (qs .0) (qs .1 .0) (a .0 .samples .ptr .0) (a .0 .samples .ptr .1) (a .0 .samples .name) (a .0 .samples .now) (a .0 .width) (a .0 .height) (a .0 .stride) (a .0 .«y_origin») (a .1 .0) (a .1 .1 .0)
       (fields .1 .0 .1) (fields .1 .1 .0 .1) (fields .1 .1 .1 .0 .1) (fields .1 .1 .1 .1 .0 .1) (are .1 .1 .0) C Λ fm known (are .0) (fields .0 .0 .1) (are .1 .0 .0 .1)))
 
 pass-window-meets : {M : Type 1} (𝓤 : URA M) (H : Heap 𝓤) (A : Atoms 𝓤) → Given 𝓤 H A → (mem : Memory → SProp 𝓤) (run : Routine → Fun 𝓤) (𝓣 : Tables 𝓤 H) → Triple 𝓤 (𝓣 .C #pass-numbers) (Pass 𝓤 H A mem run)

@@ -56,7 +56,7 @@ module _ {M : Type 1} (𝓤 : URA M) (H : Heap 𝓤) (A : Atoms 𝓤) (W : Given
   w = vstruct (vcons v (vcons (vint w64 n₁) (vcons (vint w64 n₂) (vcons (vint w64 n₃) (vcons (vint w64 n₄) vnil)))))
 
   abbrev made : PlaneWindow
-  made = record { samples = x; width = n₁; height = n₂; stride = n₃; top = n₄ }
+  made = record { samples = x; width = n₁; height = n₂; stride = n₃; «y_origin» = n₄ }
 
   abbrev Arg : Type 0
   Arg = RefT (List ℕ) × (ℕ × (ℕ × (ℕ × (ℕ × Unit {0}))))

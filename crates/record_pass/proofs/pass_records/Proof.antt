@@ -74,7 +74,7 @@ use Rattle.record_pass.proofs.pass_records.Statement as stated
 use Rattle.record_pass.proofs.pass_records.Code as code
 
 abbrev stayed : Stays (pass-records.ended .signature .params) (pass-records.ended .kept)
-stayed = (stay-none-slice (0 ∷ []) tt (plain (λ _. T.the-row)) yes, (gave-slice (1 ∷ []) tt (plain (λ _. u16)), (stay-none (λ _. usize) yes, (stay-none (λ _. usize) yes, (stay-none (λ _. usize) yes, (stay-none (λ _. usize) yes, (stay-none (λ _. P.the-row) yes, tt)))))))
+stayed = (gave-slice (0 ∷ []) tt (plain (λ _. u16)), (stay-none-slice (1 ∷ []) tt (plain (λ _. T.the-row)) yes, (stay-none (λ _. usize) yes, (stay-none (λ _. usize) yes, (stay-none (λ _. usize) yes, (stay-none (λ _. usize) yes, (stay-none (λ _. P.the-row) yes, tt)))))))
 
 -- how the numbers' machine values are spelled, and that their relation tells them
 abbrev spell : PassNumbers → List Val
@@ -92,29 +92,29 @@ module _ {M : Type 1} (𝓤 : URA M) (H : Heap 𝓤) (A : Atoms 𝓤) (mem : Mem
   PassWords = tripleOf 𝓤 H A pass-words.signature (pass-words.spec 𝓤 H A mem run)
 
 module _ {M : Type 1} (𝓤 : URA M) (H : Heap 𝓤) (A : Atoms 𝓤) (W : Given 𝓤 H A) (mem : Memory → SProp 𝓤) (run : Routine → Fun 𝓤)
-    (κ : Lft) (q : Share) (b o : ℕ) (γ : GName) (cs : List CellRecord) (κ₁ : Lft) (q₁ : Share) (b₁ o₁ : ℕ) (γ₁ : GName) (ss : List ℕ)
-    (n₁ n₂ n₃ n₄ : ℕ) (d : PassNumbers) (room : Room T.the-row (length cs)) (room₁ : Room u16 (length ss)) (f₁ : n₁ < 2 ^ 64) (f₂ : n₂ < 2 ^ 64) (f₃ : n₃ < 2 ^ 64) (f₄ : n₄ < 2 ^ 64) (d-is : Is P.the-row d (spell d)) where
+    (κ : Lft) (q : Share) (b o : ℕ) (γ : GName) (ss : List ℕ) (κ₁ : Lft) (q₁ : Share) (b₁ o₁ : ℕ) (γ₁ : GName) (cs : List CellRecord)
+    (n₁ n₂ n₃ n₄ : ℕ) (d : PassNumbers) (room : Room u16 (length ss)) (room₁ : Room T.the-row (length cs)) (f₁ : n₁ < 2 ^ 64) (f₂ : n₂ < 2 ^ 64) (f₃ : n₃ < 2 ^ 64) (f₄ : n₄ < 2 ^ 64) (d-is : Is P.the-row d (spell d)) where
   abbrev κs : Lfts 2
   κs = (κ, (κ₁, tt))
 
   abbrev n : ℕ
   n = length cs
 
-  abbrev x : RefT (List CellRecord)
-  x = record { ptr = (b, o); name = γ; now = cs }
+  abbrev x : RefT (List ℕ)
+  x = record { ptr = (b, o); name = γ; now = ss }
 
-  abbrev y : RefT (List ℕ)
-  y = record { ptr = (b₁, o₁); name = γ₁; now = ss }
+  abbrev y : RefT (List CellRecord)
+  y = record { ptr = (b₁, o₁); name = γ₁; now = cs }
 
   -- the words, at the local l
   abbrev z : ℕ → GName → List ℕ → RefT (List ℕ)
   z l δ ws = record { ptr = (l, 0); name = δ; now = ws }
 
   abbrev s : Val
-  s = sliceVal (b, o) n
+  s = sliceVal (b, o) (length ss)
 
   abbrev s₁ : Val
-  s₁ = sliceVal (b₁, o₁) (length ss)
+  s₁ = sliceVal (b₁, o₁) n
 
   abbrev sw : ℕ → List ℕ → Val
   sw l ws = sliceVal (l, 0) (length ws)
@@ -123,7 +123,7 @@ module _ {M : Type 1} (𝓤 : URA M) (H : Heap 𝓤) (A : Atoms 𝓤) (W : Given
   pm = P′.lowered d
 
   abbrev Arg : Type 0
-  Arg = RefT (List CellRecord) × (RefT (List ℕ) × (ℕ × (ℕ × (ℕ × (ℕ × (PassNumbers × Unit {0}))))))
+  Arg = RefT (List ℕ) × (RefT (List CellRecord) × (ℕ × (ℕ × (ℕ × (ℕ × (PassNumbers × Unit {0}))))))
 
   abbrev a : Arg
   a = (x, (y, (n₁, (n₂, (n₃, (n₄, (d, tt)))))))
@@ -135,34 +135,34 @@ module _ {M : Type 1} (𝓤 : URA M) (H : Heap 𝓤) (A : Atoms 𝓤) (W : Given
   Post = walkOf 𝓤 H A pass-records.ended stayed (pass-records.clauses 𝓤 H A mem run) .post ((κs, (q, (q₁, tt)), tt, a, vals), tt)
 
   abbrev Own : Fml
-  Own = ShrSlice (named 0) κ T.the-row .own x (s ∷ [])
+  Own = ShrSlice (named 1) κ₁ T.the-row .own y (s₁ ∷ [])
 
   -- what each callee is passed, and says
   abbrev to-fill : ℕ → ℕ → GName → Fill 𝓤 H A mem run .Ghost
-  to-fill l ν δ = (((κ, (ν ∷ [], tt)), (q, (fullShare, tt)), tt, (x, (z l δ zeros, tt)), (s ∷ [], (sw l zeros ∷ [], tt))), tt)
+  to-fill l ν δ = (((κ₁, (ν ∷ [], tt)), (q₁, (fullShare, tt)), tt, (y, (z l δ zeros, tt)), (s₁ ∷ [], (sw l zeros ∷ [], tt))), tt)
 
   abbrev Filled : List ℕ → Type 0
   Filled zs = zs ≡ filled (recordWord cs) 0 n zeros
 
-  goes-fill : (l ν : ℕ) (δ : GName) → ent 𝓤 (⋆ 𝓤 H A ((‵ (flft κ q) ⊛ ‵ (flft (ν ∷ []) fullShare)) ∷ ‵ Own ∷ ‵ (MutSlice (named 1) (ν ∷ []) u32 .own (z l δ zeros) (sw l zeros ∷ [])) ∷ [])) (Fill 𝓤 H A mem run .pre (to-fill l ν δ))
+  goes-fill : (l ν : ℕ) (δ : GName) → ent 𝓤 (⋆ 𝓤 H A ((‵ (flft κ₁ q₁) ⊛ ‵ (flft (ν ∷ []) fullShare)) ∷ ‵ Own ∷ ‵ (MutSlice (named 1) (ν ∷ []) u32 .own (z l δ zeros) (sw l zeros ∷ [])) ∷ [])) (Fill 𝓤 H A mem run .pre (to-fill l ν δ))
   goes-fill l ν δ =
-      qed W ((‵ (flft κ q) ⊛ ‵ (flft (ν ∷ []) fullShare)) ∷ ‵ Own ∷ ‵ (MutSlice (named 1) (ν ∷ []) u32 .own (z l δ zeros) (sw l zeros ∷ [])) ∷ []) ∵ split ! $ nothing ! $ move ! (2 ∷ 0 ∷ []) $ join ! $ move ! (1 ∷ 0 ∷ []) $ join ! $
+      qed W ((‵ (flft κ₁ q₁) ⊛ ‵ (flft (ν ∷ []) fullShare)) ∷ ‵ Own ∷ ‵ (MutSlice (named 1) (ν ∷ []) u32 .own (z l δ zeros) (sw l zeros ∷ [])) ∷ []) ∵ split ! $ nothing ! $ move ! (2 ∷ 0 ∷ []) $ join ! $ move ! (1 ∷ 0 ∷ []) $ join ! $
       nothing ! $ move ! (3 ∷ 0 ∷ []) $ fjoin ! $ move ! (2 ∷ 0 ∷ []) $ fjoin ! $ move ! (1 ∷ 0 ∷ []) $ join ! $ frame ! $ done !
 
   abbrev Passed : Type 0
-  Passed = RefT (List ℕ) × (ℕ × (RefT (List ℕ) × (ℕ × (ℕ × (ℕ × (ℕ × (PassNumbers × Unit {0})))))))
+  Passed = RefT (List ℕ) × (RefT (List ℕ) × (ℕ × (ℕ × (ℕ × (ℕ × (ℕ × (PassNumbers × Unit {0})))))))
 
   abbrev passed : ℕ → GName → List ℕ → Passed
-  passed l δ ws = (z l δ ws, (n, (y, (n₁, (n₂, (n₃, (n₄, (d, tt))))))))
+  passed l δ ws = (x, (z l δ ws, (n, (n₁, (n₂, (n₃, (n₄, (d, tt))))))))
 
   abbrev to-words : ℕ → ℕ → GName → List ℕ → PassWords 𝓤 H A mem run .Ghost
-  to-words l μ δ ws = (((μ ∷ [], (κ₁, tt)), (fullShare, (q₁, tt)), tt, passed l δ ws, (sw l ws ∷ [], (vint w64 n ∷ [], (s₁ ∷ [], (vint w64 n₁ ∷ [], (vint w64 n₂ ∷ [], (vint w64 n₃ ∷ [], (vint w64 n₄ ∷ [], (pm ∷ [], tt))))))))), tt)
+  to-words l μ δ ws = (((κ, (μ ∷ [], tt)), (q, (fullShare, tt)), tt, passed l δ ws, (s ∷ [], (sw l ws ∷ [], (vint w64 n ∷ [], (vint w64 n₁ ∷ [], (vint w64 n₂ ∷ [], (vint w64 n₃ ∷ [], (vint w64 n₄ ∷ [], (pm ∷ [], tt))))))))), tt)
 
-  goes-words : (l μ : ℕ) (δ : GName) (ws : List ℕ) → ent 𝓤 (⋆ 𝓤 H A ((‵ (flft (μ ∷ []) fullShare) ⊛ ‵ (flft κ₁ q₁)) ∷ ‵ (ShrSlice (named 0) (μ ∷ []) u32 .own (z l δ ws) (sw l ws ∷ [])) ∷ ‵ (MutSlice (named 1) κ₁ u16 .own y (s₁ ∷ [])) ∷ [])) (PassWords 𝓤 H A mem run .pre (to-words l μ δ ws))
+  goes-words : (l μ : ℕ) (δ : GName) (ws : List ℕ) → ent 𝓤 (⋆ 𝓤 H A ((‵ (flft κ q) ⊛ ‵ (flft (μ ∷ []) fullShare)) ∷ ‵ (MutSlice (named 0) κ u16 .own x (s ∷ [])) ∷ ‵ (ShrSlice (named 1) (μ ∷ []) u32 .own (z l δ ws) (sw l ws ∷ [])) ∷ [])) (PassWords 𝓤 H A mem run .pre (to-words l μ δ ws))
   goes-words l μ δ ws =
-      qed W ((‵ (flft (μ ∷ []) fullShare) ⊛ ‵ (flft κ₁ q₁)) ∷ ‵ (ShrSlice (named 0) (μ ∷ []) u32 .own (z l δ ws) (sw l ws ∷ [])) ∷ ‵ (MutSlice (named 1) κ₁ u16 .own y (s₁ ∷ [])) ∷ []) ∵ split ! $ nothing ! $ move ! (2 ∷ 0 ∷ []) $ join ! $ move ! (1 ∷ 0 ∷ []) $ join ! $
+      qed W ((‵ (flft κ q) ⊛ ‵ (flft (μ ∷ []) fullShare)) ∷ ‵ (MutSlice (named 0) κ u16 .own x (s ∷ [])) ∷ ‵ (ShrSlice (named 1) (μ ∷ []) u32 .own (z l δ ws) (sw l ws ∷ [])) ∷ []) ∵ split ! $ nothing ! $ move ! (2 ∷ 0 ∷ []) $ join ! $ move ! (1 ∷ 0 ∷ []) $ join ! $
       nothing ! $ owned ! P.the-row (Is P.the-row) (LL.makes P.the-type P′.the-plain 𝓤 H A) d _ d-is $ fjoin ! $ owned ! usize (Is usize) (uint-makes 𝓤 H A W w64) n₄ _ (refl, f₄) $ fjoin ! $ owned ! usize (Is usize) (uint-makes 𝓤 H A W w64) n₃ _ (refl, f₃) $ fjoin ! $
-      owned ! usize (Is usize) (uint-makes 𝓤 H A W w64) n₂ _ (refl, f₂) $ fjoin ! $ owned ! usize (Is usize) (uint-makes 𝓤 H A W w64) n₁ _ (refl, f₁) $ fjoin ! $ move ! (3 ∷ 0 ∷ []) $ fjoin ! $ owned ! usize (Is usize) (uint-makes 𝓤 H A W w64) n _ (refl, room .0) $ fjoin ! $ move ! (2 ∷ 0 ∷ []) $ fjoin ! $ move ! (1 ∷ 0 ∷ []) $ join ! $ frame ! $ done !
+      owned ! usize (Is usize) (uint-makes 𝓤 H A W w64) n₂ _ (refl, f₂) $ fjoin ! $ owned ! usize (Is usize) (uint-makes 𝓤 H A W w64) n₁ _ (refl, f₁) $ fjoin ! $ owned ! usize (Is usize) (uint-makes 𝓤 H A W w64) n _ (refl, room₁ .0) $ fjoin ! $ move ! (3 ∷ 0 ∷ []) $ fjoin ! $ move ! (2 ∷ 0 ∷ []) $ fjoin ! $ move ! (1 ∷ 0 ∷ []) $ join ! $ frame ! $ done !
 
   abbrev Passes : PassAnswer → List ℕ → List ℕ → Type 0
   Passes r zs ws = Answers (passOver (shape n₁ n₂ n₃ n₄) d (take n ws) ss) (returnedOf r) ss zs
@@ -176,22 +176,22 @@ module _ {M : Type 1} (𝓤 : URA M) (H : Heap 𝓤) (A : Atoms 𝓤) (W : Given
       (ap (λ (l : List ℕ). passOver (shape n₁ n₂ n₃ n₄) d (take n l) ss) e ∙ pass-stored (shape n₁ n₂ n₃ n₄) d cs zeros ss len₀) f
 
   exits : (r : PassAnswer) (w : Val) (zs : List ℕ) → Said r zs → length zs ≡ length ss
-      → ent 𝓤 (⋆ 𝓤 H A (‵ (flft κ q) ∷ (‵ (flft κ₁ q₁) ⊛ ‵ ftrue) ∷ ‵ Own ∷ ‵ (finally u16 γ₁ zs) ∷ ‵ (S.the-row .own r (w ∷ [])) ∷ [])) (Post w)
+      → ent 𝓤 (⋆ 𝓤 H A (‵ (flft κ q) ∷ ‵ (flft κ₁ q₁) ∷ ‵ (finally u16 γ zs) ∷ ‵ Own ∷ ‵ (S.the-row .own r (w ∷ [])) ∷ [])) (Post w)
   exits r w zs e l =
-      qed W (‵ (flft κ q) ∷ (‵ (flft κ₁ q₁) ⊛ ‵ ftrue) ∷ ‵ Own ∷ ‵ (finally u16 γ₁ zs) ∷ ‵ (S.the-row .own r (w ∷ [])) ∷ []) ∵
-      suffices ! _ (ends-at 𝓤 H A pass-records.ended stayed (pass-records.clauses 𝓤 H A mem run) W ((κs, (q, (q₁, tt)), tt, a, vals), tt) w r (tt, (zs, (tt, (tt, (tt, (tt, (tt, tt))))))) (tt, (l, (tt, (tt, (tt, (tt, (tt, tt)))))))) $ says ! e $ join ! $ frame ! $
+      qed W (‵ (flft κ q) ∷ ‵ (flft κ₁ q₁) ∷ ‵ (finally u16 γ zs) ∷ ‵ Own ∷ ‵ (S.the-row .own r (w ∷ [])) ∷ []) ∵
+      suffices ! _ (ends-at 𝓤 H A pass-records.ended stayed (pass-records.clauses 𝓤 H A mem run) W ((κs, (q, (q₁, tt)), tt, a, vals), tt) w r (zs, (tt, (tt, (tt, (tt, (tt, (tt, tt))))))) (l, (tt, (tt, (tt, (tt, (tt, (tt, tt)))))))) $ says ! e $ nothing ! $ move ! (2 ∷ 0 ∷ []) $ join ! $ move ! (1 ∷ 0 ∷ []) $ join ! $ frame ! $
       nothing ! $ owned ! P.the-row (Is P.the-row) (LL.makes P.the-type P′.the-plain 𝓤 H A) d _ d-is $ fjoin ! $ owned ! usize (Is usize) (uint-makes 𝓤 H A W w64) n₄ _ (refl, f₄) $ fjoin ! $ owned ! usize (Is usize) (uint-makes 𝓤 H A W w64) n₃ _ (refl, f₃) $ fjoin ! $
       owned ! usize (Is usize) (uint-makes 𝓤 H A W w64) n₂ _ (refl, f₂) $ fjoin ! $ owned ! usize (Is usize) (uint-makes 𝓤 H A W w64) n₁ _ (refl, f₁) $ fjoin ! $ move ! (2 ∷ 0 ∷ []) $ fjoin ! $ move ! (1 ∷ 0 ∷ []) $ fjoin ! $ frame ! $ done !
 
   module _ (C : Calls 𝓤 H) (Λ : Loops 𝓤 H) (fm : FmC 𝓤 H (W .laws) C) (known-fill : Triple 𝓤 (C #fill) (Fill 𝓤 H A mem run)) (known-words : Triple 𝓤 (C #pass-words) (PassWords 𝓤 H A mem run)) where
     walk : ent 𝓤 (onEntry 𝓤 H A pass-records.signature κs (q, (q₁, tt)) a vals) (WpFn 𝓤 H C Λ code.function (s ∷ s₁ ∷ vint w64 n₁ ∷ vint w64 n₂ ∷ vint w64 n₃ ∷ vint w64 n₄ ∷ pm ∷ []) Post)
     walk =
-        qed W ((‵ (flft κ q) ⊛ ‵ (flft κ₁ q₁) ⊛ ‵ ftrue) ∷ ‵ (owns (ShrSlice (named 0) κ T.the-row ∷ MutSlice (named 1) κ₁ u16 ∷ usize ∷ usize ∷ usize ∷ usize ∷ P.the-row ∷ []) a vals) ∷ []) ∵ enter ! C Λ code.function (s ∷ s₁ ∷ vint w64 n₁ ∷ vint w64 n₂ ∷ vint w64 n₃ ∷ vint w64 n₄ ∷ pm ∷ []) _ $
+        qed W ((‵ (flft κ q) ⊛ ‵ (flft κ₁ q₁) ⊛ ‵ ftrue) ∷ ‵ (owns (MutSlice (named 0) κ u16 ∷ ShrSlice (named 1) κ₁ T.the-row ∷ usize ∷ usize ∷ usize ∷ usize ∷ P.the-row ∷ []) a vals) ∷ []) ∵ enter ! C Λ code.function (s ∷ s₁ ∷ vint w64 n₁ ∷ vint w64 n₂ ∷ vint w64 n₃ ∷ vint w64 n₄ ∷ pm ∷ []) _ $
         alloc1 ! (λ l₀. alloc1 ! (λ l₁. alloc1 ! (λ l₂. alloc1 ! (λ l₃. alloc1 ! (λ l₄. alloc1 ! (λ l₅. alloc1 ! (λ l₆. alloc1 ! (λ l₇. alloc1 ! (λ l₈. alloc1 ! (λ l₉. alloc1 ! (λ l₁₀. alloc1 ! (λ l₁₁. alloc1 ! (λ l₁₂. alloc1 ! (λ l₁₃. alloc1 ! (λ l₁₄. alloc1 ! (λ l₁₅. alloc1 ! (λ l₁₆. alloc0 ! $ params1 ! $
         pass1 ! (init ! 30 refl (tt, (tt, (record { fits = room .0 }, tt)))) $ pass1 ! (init ! 28 refl (tt, (tt, (record { fits = room₁ .0 }, tt)))) $ pass1 ! (init ! 26 refl (tt, record { fits = f₁ })) $ pass1 ! (init ! 24 refl (tt, record { fits = f₂ })) $
         pass1 ! (init ! 22 refl (tt, record { fits = f₃ })) $ pass1 ! (init ! 20 refl (tt, record { fits = f₄ })) $ pass1 ! (init ! 18 refl (LL.lawful P.the-type P′.the-laws 𝓤 H A W .typed d _ d-is .0)) $ pass0 ! $
         -- [_16; …; _15; …; …; _1; …; room for _0; …; the tokens; what the parameters own]
-        assigns ! (of-opd ! (load ! (from ! (fld ! refl (stop !))) (look-in ! 30 (sub ! 1 refl (whole !))))) (from ! (stop !)) (init ! 16 refl (tt, record { fits = room .0 })) $
+        assigns ! (of-opd ! (load ! (from ! (fld ! refl (stop !))) (look-in ! 28 (sub ! 1 refl (whole !))))) (from ! (stop !)) (init ! 16 refl (tt, record { fits = room₁ .0 })) $
         -- the array of words
         owned ! u32 (Is u32) (uint-makes 𝓤 H A W w32) 0 (vint w32 0 ∷ []) (refl, lit< tt) $ use1 W (‵ (Words .own zeros (av ∷ []))) (made 𝓤 H A W) $
         peeks ! Words (Is Words) (shows 𝓤 H A Words) zeros (av ∷ []) (λ is₀.
@@ -201,51 +201,51 @@ module _ {M : Type 1} (𝓤 : URA M) (H : Heap 𝓤) (A : Atoms 𝓤) (W : Given
         assigns ! (agg ! (and-then ! (load ! (from ! (stop !)) (look ! 11 refl)) (and-then ! (big ! (record { fits = lit< tt })) (no-more !)))) (from ! (stop !)) (init ! 9 refl (tt, (tt, (record { fits = lit< tt }, tt)))) $
         rewrite ! 9 (λ (m : ℕ). ‵ (fat fullShare (sliceTy (tyRef erased mut (tyInt w32))) l₁₂ 0 (sliceVal (l₉, 0) m))) (sym len₀) refl $
         move ! (15 ∷ 0 ∷ []) $ use2 W (‵ (cells (memOf u32) zeros l₉ 0)) (apart 𝓤 H A W l₉) $
-        move ! (34 ∷ []) $ split ! $ move ! (1 ∷ []) $ split ! $ move ! (37 ∷ []) $ fsplit ! $ use1 W (‵ Own ⊛ ‵ Own) (shr-slice-copy 𝓤 H A W (named 0) κ T.the-row .twice x (s ∷ [])) $ split ! $ move ! (2 ∷ []) $ fsplit ! $
+        move ! (34 ∷ []) $ split ! $ move ! (1 ∷ []) $ split ! $ move ! (37 ∷ []) $ fsplit ! $ move ! (1 ∷ []) $ fsplit ! $ use1 W (‵ Own ⊛ ‵ Own) (shr-slice-copy 𝓤 H A W (named 1) κ₁ T.the-row .twice y (s₁ ∷ [])) $ split ! $ move ! (3 ∷ 2 ∷ 0 ∷ 1 ∷ 6 ∷ 5 ∷ 4 ∷ []) $
         -- [samples'; the numbers'; records'; records'; samples' token; true; records' token; the words; _16; …]: they are lent, for a lifetime ν of the call of `fill`
         lft-new ! tt (λ ν. move ! (8 ∷ []) $
         use1 W (later (some (λ (δ : GName). ‵ (MutSlice (named 1) (ν ∷ []) u32 .own (z l₉ δ zeros) (sw l₉ zeros ∷ [])) ⊛ ‵ (flent (ν ∷ []) (Held u32 (length zeros) l₉ 0 δ))))) (lends-slice 𝓤 H A W u32 (named 1) (ν ∷ []) zeros l₉ 0 (subst (Room u32) (sym len₀) (lit< tt, lit< tt))) $ await ! tt $ pick ! (λ δ. split ! $
         move ! (9 ∷ 2 ∷ 5 ∷ 0 ∷ []) $ join ! $ use3 W (raw (Fill 𝓤 H A mem run .pre (to-fill l₉ ν δ))) (goes-fill l₉ ν δ) $
-        -- [what `fill` asks; what is lent; samples'; the numbers'; records'; samples' token; true; _16; …; _12 at 15; …; _1 at 36; …]
-        calls-at ! fm (Fill 𝓤 H A mem run) known-fill (to-fill l₉ ν δ) (and-then ! (load ! (from ! (stop !)) (look ! 36 refl)) (and-then ! (load ! (from ! (stop !)) (look ! 15 refl)) (no-more !))) (λ w.
-        use1 W (later (some (λ (k : Unit {0}). ((‵ (flft κ q) ⊛ ‵ (flft (ν ∷ []) fullShare) ⊛ ‵ ftrue) ⊛ ‵ (unit .own k (w ∷ []))) ⊛ raw (ensured 𝓤 H A fill.ended (fill.clauses 𝓤 H A mem run) (κ, (ν ∷ [], tt)) (x, (z l₉ δ zeros, tt)) tt k)))) (id⊢ 𝓤 _) $ await ! tt $ pick ! (λ k.
-        split ! $ move ! (1 ∷ []) $ use1 W (some (λ (zs : Unit {0} × (List ℕ × Unit {0})). ‵ (lasts fill.ended (κ, (ν ∷ [], tt)) (x, (z l₉ δ zeros, tt)) zs) ⊛ raw (fact 𝓤 (Filled (zs .1 .0))))) (id⊢ 𝓤 _) $ pick ! (λ zs.
+        -- [what `fill` asks; what is lent; samples'; the numbers'; records'; samples' token; true; _16; …; _12 at 15; …; _2 at 34; …]
+        calls-at ! fm (Fill 𝓤 H A mem run) known-fill (to-fill l₉ ν δ) (and-then ! (load ! (from ! (stop !)) (look ! 34 refl)) (and-then ! (load ! (from ! (stop !)) (look ! 15 refl)) (no-more !))) (λ w.
+        use1 W (later (some (λ (k : Unit {0}). ((‵ (flft κ₁ q₁) ⊛ ‵ (flft (ν ∷ []) fullShare) ⊛ ‵ ftrue) ⊛ ‵ (unit .own k (w ∷ []))) ⊛ raw (ensured 𝓤 H A fill.ended (fill.clauses 𝓤 H A mem run) (κ₁, (ν ∷ [], tt)) (y, (z l₉ δ zeros, tt)) tt k)))) (id⊢ 𝓤 _) $ await ! tt $ pick ! (λ k.
+        split ! $ move ! (1 ∷ []) $ use1 W (some (λ (zs : Unit {0} × (List ℕ × Unit {0})). ‵ (lasts fill.ended (κ₁, (ν ∷ [], tt)) (y, (z l₉ δ zeros, tt)) zs) ⊛ raw (fact 𝓤 (Filled (zs .1 .0))))) (id⊢ 𝓤 _) $ pick ! (λ zs.
         split ! $ move ! (1 ∷ []) $ heard ! (Filled (zs .1 .0)) (λ e. fsplit ! $ move ! (1 ∷ []) $ fsplit ! $ fsplit ! $ move ! (1 ∷ []) $ feqL ! (λ len.
         move ! (3 ∷ []) $ split ! $ move ! (1 ∷ []) $ peeks ! unit (Is unit) (shows 𝓤 H A unit) k (w ∷ []) (λ is.
         land ! (from ! (stop !)) (init ! 23 refl (subst (λ (u : Val). Holds (hasTy tyUnit u) × WT u) (sym (ap only is)) (tt, tt))) $
         -- [the result; the tokens; the last list; true; true; what is lent; …]: the lifetime is ended, and the words come back, to be lent as they are
         move ! (1 ∷ []) $ split ! $ move ! (1 ∷ []) $ split ! $ lft-end ! tt $ move ! (0 ∷ 7 ∷ 4 ∷ []) $
         use3 W (later (‵ (Arr (memOf u32) (length zeros) .lies (zs .1 .0) l₉ 0))) (slice-back 𝓤 H A W u32 (ν ∷ []) δ (zs .1 .0) (length zeros) l₉ 0) $ await ! tt $ use1 W (‵ (Parts 𝓤 H A W l₉ (zs .1 .0))) (shared 𝓤 H A W l₉ (zs .1 .0)) $
-        -- [the words; true; records' token; the result; true; true; samples'; the numbers'; records'; samples' token; true; _16; …; _14 at 15; …; _13 at 17; …; _2 at 38; …]
-        assigns ! (addr ! (from ! (stop !))) (from ! (stop !)) (init ! 17 refl (tt, tt)) $
-        assigns ! (agg ! (and-then ! (load ! (from ! (stop !)) (look ! 17 refl)) (and-then ! (big ! (record { fits = lit< tt })) (no-more !)))) (from ! (stop !)) (init ! 15 refl (tt, (tt, (record { fits = lit< tt }, tt)))) $
-        rewrite ! 15 (λ (m : ℕ). ‵ (fat fullShare (sliceTy (tyRef erased imm (tyInt w32))) l₁₄ 0 (sliceVal (l₉, 0) m))) (sym (len ∙ len₀)) refl $
-        assigns ! (addr ! (from ! (fld ! refl (hop ! (look-in ! 38 (sub ! 0 refl (whole !))) (stop !))))) (from ! (stop !)) (init ! 13 refl (tt, tt)) $
-        assigns ! (agg ! (and-then ! (load ! (from ! (stop !)) (look ! 13 refl)) (and-then ! (load ! (from ! (fld ! refl (stop !))) (look-in ! 38 (sub ! 1 refl (whole !)))) (no-more !)))) (from ! (stop !)) (init ! 11 refl (tt, (tt, (record { fits = room₁ .0 }, tt)))) $
+        -- [the words; true; records' token; the result; true; true; samples'; the numbers'; records'; samples' token; true; _16; …; _14 at 15; …; _13 at 17; …; _1 at 40; …]
+        assigns ! (addr ! (from ! (fld ! refl (hop ! (look-in ! 40 (sub ! 0 refl (whole !))) (stop !))))) (from ! (stop !)) (init ! 17 refl (tt, tt)) $
+        assigns ! (agg ! (and-then ! (load ! (from ! (stop !)) (look ! 17 refl)) (and-then ! (load ! (from ! (fld ! refl (stop !))) (look-in ! 40 (sub ! 1 refl (whole !)))) (no-more !)))) (from ! (stop !)) (init ! 15 refl (tt, (tt, (record { fits = room .0 }, tt)))) $
+        assigns ! (addr ! (from ! (stop !))) (from ! (stop !)) (init ! 13 refl (tt, tt)) $
+        assigns ! (agg ! (and-then ! (load ! (from ! (stop !)) (look ! 13 refl)) (and-then ! (big ! (record { fits = lit< tt })) (no-more !)))) (from ! (stop !)) (init ! 11 refl (tt, (tt, (record { fits = lit< tt }, tt)))) $
+        rewrite ! 11 (λ (m : ℕ). ‵ (fat fullShare (sliceTy (tyRef erased imm (tyInt w32))) l₁₆ 0 (sliceVal (l₉, 0) m))) (sym (len ∙ len₀)) refl $
         -- `pass_words`, for whose call the words are lent for a lifetime μ
         lft-new ! tt (λ μ. move ! (1 ∷ []) $
-        use1 W (later (some (λ (ε : GName). ‵ (ShrSlice (named 0) (μ ∷ []) u32 .own (z l₉ ε (zs .1 .0)) (sw l₉ (zs .1 .0) ∷ [])) ⊛ ‵ (flent (μ ∷ []) (Parts 𝓤 H A W l₉ (zs .1 .0)))))) (lends-shr-slice 𝓤 H A W u32 (named 0) (μ ∷ []) fullShare (zs .1 .0) l₉ 0 (subst (Room u32) (sym (len ∙ len₀)) (lit< tt, lit< tt))) $ await ! tt $ pick ! (λ ε. split ! $
-        move ! (2 ∷ 11 ∷ 0 ∷ 8 ∷ []) $ join ! $ use3 W (raw (PassWords 𝓤 H A mem run .pre (to-words l₉ μ ε (zs .1 .0)))) (goes-words l₉ μ ε (zs .1 .0)) $
+        use1 W (later (some (λ (ε : GName). ‵ (ShrSlice (named 1) (μ ∷ []) u32 .own (z l₉ ε (zs .1 .0)) (sw l₉ (zs .1 .0) ∷ [])) ⊛ ‵ (flent (μ ∷ []) (Parts 𝓤 H A W l₉ (zs .1 .0)))))) (lends-shr-slice 𝓤 H A W u32 (named 1) (μ ∷ []) fullShare (zs .1 .0) l₉ 0 (subst (Room u32) (sym (len ∙ len₀)) (lit< tt, lit< tt))) $ await ! tt $ pick ! (λ ε. split ! $
+        move ! (11 ∷ 2 ∷ 8 ∷ 0 ∷ []) $ join ! $ use3 W (raw (PassWords 𝓤 H A mem run .pre (to-words l₉ μ ε (zs .1 .0)))) (goes-words l₉ μ ε (zs .1 .0)) $
         -- [what `pass_words` asks; what is lent; true; records' token; the result; true; true; the numbers'; records'; true; _16; …; _14 at 14; …; _8 at 25; …]
-        calls-at ! fm (PassWords 𝓤 H A mem run) known-words (to-words l₉ μ ε (zs .1 .0)) (and-then ! (load ! (from ! (stop !)) (look ! 14 refl)) (and-then ! (load ! (from ! (stop !)) (look ! 25 refl)) (and-then ! (load ! (from ! (stop !)) (look ! 10 refl)) (and-then ! (load ! (from ! (stop !)) (look ! 35 refl)) (and-then ! (load ! (from ! (stop !)) (look ! 33 refl)) (and-then ! (load ! (from ! (stop !)) (look ! 31 refl)) (and-then ! (load ! (from ! (stop !)) (look ! 29 refl)) (and-then ! (load ! (from ! (stop !)) (look ! 27 refl)) (no-more !))))))))) (λ u.
-        use1 W (later (some (λ (r : PassAnswer). ((‵ (flft (μ ∷ []) fullShare) ⊛ ‵ (flft κ₁ q₁) ⊛ ‵ ftrue) ⊛ ‵ (S.the-row .own r (u ∷ []))) ⊛ raw (ensured 𝓤 H A pass-words.ended (pass-words.clauses 𝓤 H A mem run) (μ ∷ [], (κ₁, tt)) (passed l₉ ε (zs .1 .0)) tt r)))) (id⊢ 𝓤 _) $ await ! tt $ pick ! (λ r.
-        split ! $ move ! (1 ∷ []) $ use1 W (some (λ (vs : Unit {0} × (Unit {0} × (List ℕ × (Unit {0} × (Unit {0} × (Unit {0} × (Unit {0} × (Unit {0} × Unit {0})))))))). ‵ (lasts pass-words.ended (μ ∷ [], (κ₁, tt)) (passed l₉ ε (zs .1 .0)) vs) ⊛ raw (fact 𝓤 (Passes r (vs .1 .1 .0) (zs .1 .0))))) (id⊢ 𝓤 _) $ pick ! (λ vs.
-        split ! $ move ! (1 ∷ []) $ heard ! (Passes r (vs .1 .1 .0) (zs .1 .0)) (λ f. fsplit ! $ move ! (1 ∷ []) $ fsplit ! $ move ! (1 ∷ []) $ fsplit ! $ fsplit ! $ move ! (1 ∷ []) $ feqL ! (λ len₁.
-        move ! (4 ∷ []) $ split ! $ move ! (1 ∷ []) $ peeks ! S.the-row (Is S.the-row) (shows 𝓤 H A S.the-row) r (u ∷ []) (λ is′.
-        -- [the result; the tokens; samples' last list; true; true; true; what is lent; true; records' token; `fill`'s result; true; true; the numbers'; records'; true; _16; …; _0 at 46; …]
-        land ! (from ! (stop !)) (init ! 46 refl (EL.lawful S.the-type S′.the-laws 𝓤 H A W tt .typed r _ is′ .0)) $
-        move ! (1 ∷ []) $ split ! $ lft-end ! tt $ move ! (0 ∷ 7 ∷ []) $ lent-back ! tt $ use1 W (‵ (froom arrTy l₉ 0)) (together 𝓤 H A W l₉ (zs .1 .0) (len ∙ len₀)) $
-        -- [room for _9; samples' token; the result; samples' last list; …; records' token at 8; …; records' at 13; true; _16; …; that _9 dies, at 29; _8 at 30; …]
-        returns ! (look ! 46 refl) $ forget ! 15 refl $ forget ! 17 refl $ forget ! 19 refl $ forget ! 21 refl $ forget ! 23 refl $ forget ! 25 refl $ forget ! 27 refl $ forget ! 30 refl $ forget ! 32 refl $ forget ! 34 refl $ forget ! 36 refl $ forget ! 38 refl $ forget ! 40 refl $ forget ! 42 refl $ forget ! 44 refl $ forget ! 46 refl $
-        move ! (46 ∷ 47 ∷ []) $ free1 ! $ move ! (44 ∷ 45 ∷ []) $ free1 ! $ move ! (42 ∷ 43 ∷ []) $ free1 ! $ move ! (40 ∷ 41 ∷ []) $ free1 ! $ move ! (38 ∷ 39 ∷ []) $ free1 ! $ move ! (36 ∷ 37 ∷ []) $ free1 ! $ move ! (34 ∷ 35 ∷ []) $ free1 ! $ move ! (32 ∷ 33 ∷ []) $ free1 ! $ move ! (30 ∷ 31 ∷ []) $ free1 ! $ move ! (0 ∷ 29 ∷ []) $ free1 ! $ move ! (26 ∷ 27 ∷ []) $ free1 ! $ move ! (24 ∷ 25 ∷ []) $ free1 ! $ move ! (22 ∷ 23 ∷ []) $ free1 ! $ move ! (20 ∷ 21 ∷ []) $ free1 ! $ move ! (18 ∷ 19 ∷ []) $ free1 ! $ move ! (16 ∷ 17 ∷ []) $ free1 ! $ move ! (14 ∷ 15 ∷ []) $ free1 ! $ free0 ! $
-        keep ! (7 ∷ 0 ∷ 12 ∷ 2 ∷ 1 ∷ []) $ by ! (exits r u (vs .1 .1 .0) (both r (vs .1 .1 .0) (zs .1 .0) e f) len₁)))))))))))))))))))))))))))))))))))
+        calls-at ! fm (PassWords 𝓤 H A mem run) known-words (to-words l₉ μ ε (zs .1 .0)) (and-then ! (load ! (from ! (stop !)) (look ! 14 refl)) (and-then ! (load ! (from ! (stop !)) (look ! 10 refl)) (and-then ! (load ! (from ! (stop !)) (look ! 25 refl)) (and-then ! (load ! (from ! (stop !)) (look ! 35 refl)) (and-then ! (load ! (from ! (stop !)) (look ! 33 refl)) (and-then ! (load ! (from ! (stop !)) (look ! 31 refl)) (and-then ! (load ! (from ! (stop !)) (look ! 29 refl)) (and-then ! (load ! (from ! (stop !)) (look ! 27 refl)) (no-more !))))))))) (λ u.
+        use1 W (later (some (λ (r : PassAnswer). ((‵ (flft κ q) ⊛ ‵ (flft (μ ∷ []) fullShare) ⊛ ‵ ftrue) ⊛ ‵ (S.the-row .own r (u ∷ []))) ⊛ raw (ensured 𝓤 H A pass-words.ended (pass-words.clauses 𝓤 H A mem run) (κ, (μ ∷ [], tt)) (passed l₉ ε (zs .1 .0)) tt r)))) (id⊢ 𝓤 _) $ await ! tt $ pick ! (λ r.
+        split ! $ move ! (1 ∷ []) $ use1 W (some (λ (vs : List ℕ × (Unit {0} × (Unit {0} × (Unit {0} × (Unit {0} × (Unit {0} × (Unit {0} × (Unit {0} × Unit {0})))))))). ‵ (lasts pass-words.ended (κ, (μ ∷ [], tt)) (passed l₉ ε (zs .1 .0)) vs) ⊛ raw (fact 𝓤 (Passes r (vs .0) (zs .1 .0))))) (id⊢ 𝓤 _) $ pick ! (λ vs.
+        split ! $ move ! (1 ∷ []) $ heard ! (Passes r (vs .0) (zs .1 .0)) (λ f. fsplit ! $ fsplit ! $ move ! (1 ∷ []) $ feqL ! (λ len₁.
+        move ! (2 ∷ []) $ split ! $ move ! (1 ∷ []) $ peeks ! S.the-row (Is S.the-row) (shows 𝓤 H A S.the-row) r (u ∷ []) (λ is′.
+        -- [the result; the tokens; samples' last list; true; what is lent; true; records' token; `fill`'s result; true; true; the numbers'; records'; true; _16; …; _0 at 44; …]
+        land ! (from ! (stop !)) (init ! 44 refl (EL.lawful S.the-type S′.the-laws 𝓤 H A W tt .typed r _ is′ .0)) $
+        move ! (1 ∷ []) $ split ! $ move ! (1 ∷ []) $ split ! $ lft-end ! tt $ move ! (0 ∷ 6 ∷ []) $ lent-back ! tt $ use1 W (‵ (froom arrTy l₉ 0)) (together 𝓤 H A W l₉ (zs .1 .0) (len ∙ len₀)) $
+        -- [room for _9; true; samples' token; the result; samples' last list; …; records' token at 7; …; records' at 12; true; _16; …; that _9 dies, at 28; _8 at 29; …]
+        returns ! (look ! 45 refl) $ forget ! 14 refl $ forget ! 16 refl $ forget ! 18 refl $ forget ! 20 refl $ forget ! 22 refl $ forget ! 24 refl $ forget ! 26 refl $ forget ! 29 refl $ forget ! 31 refl $ forget ! 33 refl $ forget ! 35 refl $ forget ! 37 refl $ forget ! 39 refl $ forget ! 41 refl $ forget ! 43 refl $ forget ! 45 refl $
+        move ! (45 ∷ 46 ∷ []) $ free1 ! $ move ! (43 ∷ 44 ∷ []) $ free1 ! $ move ! (41 ∷ 42 ∷ []) $ free1 ! $ move ! (39 ∷ 40 ∷ []) $ free1 ! $ move ! (37 ∷ 38 ∷ []) $ free1 ! $ move ! (35 ∷ 36 ∷ []) $ free1 ! $ move ! (33 ∷ 34 ∷ []) $ free1 ! $ move ! (31 ∷ 32 ∷ []) $ free1 ! $ move ! (29 ∷ 30 ∷ []) $ free1 ! $ move ! (0 ∷ 28 ∷ []) $ free1 ! $ move ! (25 ∷ 26 ∷ []) $ free1 ! $ move ! (23 ∷ 24 ∷ []) $ free1 ! $ move ! (21 ∷ 22 ∷ []) $ free1 ! $ move ! (19 ∷ 20 ∷ []) $ free1 ! $ move ! (17 ∷ 18 ∷ []) $ free1 ! $ move ! (15 ∷ 16 ∷ []) $ free1 ! $ move ! (13 ∷ 14 ∷ []) $ free1 ! $ free0 ! $
+        keep ! (1 ∷ 6 ∷ 3 ∷ 11 ∷ 2 ∷ []) $ by ! (exits r u (vs .0) (both r (vs .0) (zs .1 .0) e f) len₁)))))))))))))))))))))))))))))))))))
 
 module _ {M : Type 1} (𝓤 : URA M) (H : Heap 𝓤) (A : Atoms 𝓤) (W : Given 𝓤 H A) (mem : Memory → SProp 𝓤) (run : Routine → Fun 𝓤) where
   pass-records-walks : (C : Calls 𝓤 H) (Λ : Loops 𝓤 H) → FmC 𝓤 H (W .laws) C → Triple 𝓤 (C #fill) (Fill 𝓤 H A mem run) → Triple 𝓤 (C #pass-words) (PassWords 𝓤 H A mem run)
       → Walks 𝓤 H A pass-records.ended stayed (WpFn 𝓤 H C Λ code.function) (pass-records.clauses 𝓤 H A mem run)
   pass-records-walks C Λ fm known-fill known-words = walked 𝓤 H A pass-records.ended stayed (pass-records.clauses 𝓤 H A mem run) (WpFn 𝓤 H C Λ code.function)
       (λ κs. (slice-vals, (slice-vals, (uint-vals w64, (uint-vals w64, (uint-vals w64, (uint-vals w64, (spell, tt))))))))
-      (λ κs. (shr-slice-tells (named 0) (κs .0) T.the-row, (mut-slice-tells (named 1) (κs .1 .0) u16, (uint-tells w64, (uint-tells w64, (uint-tells w64, (uint-tells w64, (tell, tt))))))))
+      (λ κs. (mut-slice-tells (named 0) (κs .0) u16, (shr-slice-tells (named 1) (κs .1 .0) T.the-row, (uint-tells w64, (uint-tells w64, (uint-tells w64, (uint-tells w64, (tell, tt))))))))
       (λ κs qs bounds a g are. via 𝓤 _ (fst∗ 𝓤 _ (emp 𝓤))
       (walk 𝓤 H A W mem run (κs .0) (qs .0) (a .0 .ptr .0) (a .0 .ptr .1) (a .0 .name) (a .0 .now) (κs .1 .0) (qs .1 .0) (a .1 .0 .ptr .0) (a .1 .0 .ptr .1) (a .1 .0 .name) (a .1 .0 .now)
       (a .1 .1 .0) (a .1 .1 .1 .0) (a .1 .1 .1 .1 .0) (a .1 .1 .1 .1 .1 .0) (a .1 .1 .1 .1 .1 .1 .0) (are .0 .0 .1) (are .1 .0 .0 .1)
@@ -256,7 +256,7 @@ pass-records-meets : {M : Type 1} (𝓤 : URA M) (H : Heap 𝓤) (A : Atoms 𝓤
     → Meets 𝓤 H A pass-records.signature (WpFn 𝓤 H (𝓣 .C) (𝓣 .Λ) code.function) (pass-records.spec 𝓤 H A mem run)
 pass-records-meets 𝓤 H A W mem run 𝓣 known-fill known-words =
     let num = goes-none 𝓤 H A W 2 (λ _. usize) yes (λ κs x f. refl) in
-    walk-meets 𝓤 H A pass-records.ended stayed W (goes-none-slice 𝓤 H A W 2 (0 ∷ []) tt (plain (λ _. T.the-row)) yes, (goes-gave-slice 𝓤 H A W 2 1 tt (plain (λ _. u16)), (num, (num, (num, (num, (goes-none 𝓤 H A W 2 (λ _. P.the-row) yes (λ κs x f. refl), tt))))))) (pass-records.clauses 𝓤 H A mem run)
+    walk-meets 𝓤 H A pass-records.ended stayed W (goes-gave-slice 𝓤 H A W 2 0 tt (plain (λ _. u16)), (goes-none-slice 𝓤 H A W 2 (1 ∷ []) tt (plain (λ _. T.the-row)) yes, (num, (num, (num, (num, (goes-none 𝓤 H A W 2 (λ _. P.the-row) yes (λ κs x f. refl), tt))))))) (pass-records.clauses 𝓤 H A mem run)
     (WpFn 𝓤 H (𝓣 .C) (𝓣 .Λ) code.function) (WpFn-mono 𝓤 H (W .laws) 𝓣 code.function) (pass-records-walks 𝓤 H A W mem run (𝓣 .C) (𝓣 .Λ) (fmOf 𝓤 H (W .laws) 𝓣) known-fill known-words)
 
 pub pass-records-spec : {M : Type 1} → stated.statement M

@@ -9,7 +9,7 @@ superblock-loop-filter-unchecked-requires : tie.Need-superblock-loop-filter-unch
 superblock-loop-filter-unchecked-requires c κs =
     let start = c .before .before .before .before .before in
     let a = start .args in
-    rw (c .before .before .superblock-of .ensures) (accepted-ready _ (a .sharpness) (a .depth) (a .sub-x) (a .sub-y) (a .mi-cols) (a .mi-rows) (a .row) (a .col) (a .plane) (a .pass) (a .cells .now) (a .samples .now) _ (start .pre))
+    rw (c .before .before .superblock-of .ensures) (accepted-ready _ (a .sharpness) (a .bit-depth) (a .sub-x) (a .sub-y) (a .mi-cols) (a .mi-rows) (a .mi-row) (a .mi-col) (a .plane) (a .pass) (a .cells .now) (a .samples .now) _ (start .pre))
 
 returns : tie.Need-returns
 returns c =

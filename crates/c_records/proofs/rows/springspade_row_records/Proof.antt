@@ -107,7 +107,7 @@ place-in (refused number place) n rs h = h
 records-place : (m : ModeInfo) (levels : List ℕ) (p : RowNumbers) (rs : List CellRecord) → returned (rowRecords m levels p rs) .place ≤ 65536
 unfolding rowRecords
 records-place m levels p rs =
-    place-in (rowWith m levels p (zeros (length rs))) (cellsIn p) rs (row-place m levels (p .sharpness) (p .depth) (p .subx) (p .suby) (p .cols) (p .rows) (p .base) (zeros (length rs)))
+    place-in (rowWith m levels p (zeros (length rs))) (cellsIn p) rs (row-place m levels (p .sharpness) (p .«bit_depth») (p .«sub_x») (p .«sub_y») (p .«mi_cols») (p .«mi_rows») (p .«mi_row») (zeros (length rs)))
 
 module _ {M : Type 1} (𝓤 : URA M) (H : Heap 𝓤) (A : Atoms 𝓤) (mem : Memory → SProp 𝓤) (run : Routine → Fun 𝓤) where
   -- the contracts that the proof cites
