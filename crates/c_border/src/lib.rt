@@ -7,7 +7,9 @@ ghost use Rattle.c_border.specs.Border.{numbersOf, crossing};
 // call writes nothing.
 #[repr(C)]
 pub struct Refusal {
+    // 0, or the number of the refusal.
     pub number: u32,
+    // Where, or 0.
     pub place: u32,
 }
 

@@ -9,20 +9,29 @@ use edges::SuperblockFilterMi;
 // The answer of springspade_edge: number and place 0 with the facts, or the number of the refusal with zeros.
 #[repr(C)]
 pub struct Edge {
+    // 0, or the number of the refusal.
     pub number: u32,
+    // Where, or 0.
     pub place: u32,
-    // The position in luma samples.
+    // The position's column in luma samples.
     pub x: usize,
+    // The position's row in luma samples.
     pub y: usize,
-    // The cell that it reads, in units of 8 luma samples.
+    // The column of the cell that it reads, in units of 8 luma samples.
     pub loop_col: usize,
+    // The row of that cell.
     pub loop_row: usize,
+    // Whether it lies on an edge of its block.
     pub is_block_edge: bool,
+    // Whether it lies on an edge of its transform.
     pub is_tx_edge: bool,
+    // Whether its edge has a number that is a multiple of 8.
     pub is_32_edge: bool,
+    // Whether it lies inside the frame, and its edge is not the frame's left or upper border.
     pub on_screen: bool,
-    // Whether the position is filtered, and with which filter_size of springspade_line.
+    // Whether it is filtered, if its level is above 0.
     pub apply_filter: bool,
+    // With which filter_size of springspade_line.
     pub filter_size: u8,
 }
 

@@ -9,10 +9,15 @@ use strength::StrengthAnswer;
 // zeros. The values are those of 8 bits; springspade_line scales them to its bit_depth.
 #[repr(C)]
 pub struct Strength {
+    // 0, or the number of the refusal.
     pub number: u32,
+    // Where, or 0.
     pub place: u32,
+    // How much neighbours on one side of the edge may differ.
     pub limit: u8,
+    // How much the two sides may differ.
     pub blimit: u8,
+    // How much neighbours differ before only two samples are changed.
     pub thresh: u8,
 }
 

@@ -5,17 +5,26 @@ ghost use Rattle.cell_records.specs.CellRecord.{tooLarge, wordOf, record
 use cells::LfCell;
 use cells::pack_unchecked;
 
-// A cell as LfCell, with a byte for each field: skipped and present are 0 or 1.
+// A cell as LfCell, with a byte for each field.
 #[repr(C)]
 pub struct CellRecord {
+    // Logarithm of the block's width in units of 8 luma samples, for a plane that is not subsampled across: 0 to 3.
     pub width0: u8,
+    // The same for a plane that is.
     pub width1: u8,
+    // Logarithm of the block's height, for a plane that is not subsampled down: 0 to 3.
     pub height0: u8,
+    // The same for a plane that is.
     pub height1: u8,
+    // The transform in plane 0: 0 (4x4) to 3 (32x32).
     pub tx: u8,
+    // The transform in planes 1 and 2.
     pub uvtx: u8,
+    // 0 or 1. 1 where the block is inter and has no coefficients: its inner transform edges are not filtered.
     pub skipped: u8,
+    // 0 or 1: whether the cell has a level.
     pub present: u8,
+    // 0 to 63; 0 where there is none.
     pub level: u8,
 }
 

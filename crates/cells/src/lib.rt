@@ -7,21 +7,24 @@ ghost use lib.ListN.{length};
 ghost use Rattle.base.specs.First.{first, found};
 ghost use Rattle.cells.specs.Cell.{bit, packed, cellOf, badWord, badCell, Fields};
 
-// What the pass reads of a cell. The logarithms are 0 to 3.
+// What the pass reads of a cell.
 #[repr(C)]
 pub struct LfCell {
-    // Logarithm of the block's width in units of 8 luma samples, where the plane is not subsampled and where it is.
+    // Logarithm of the block's width in units of 8 luma samples, for a plane that is not subsampled across: 0 to 3.
     pub width0: u8,
+    // The same for a plane that is.
     pub width1: u8,
-    // The same of its height.
+    // Logarithm of the block's height, for a plane that is not subsampled down: 0 to 3.
     pub height0: u8,
+    // The same for a plane that is.
     pub height1: u8,
-    // The transform in plane 0, and in planes 1 and 2: 0 (4x4) to 3 (32x32).
+    // The transform in plane 0: 0 (4x4) to 3 (32x32).
     pub tx: u8,
+    // The transform in planes 1 and 2.
     pub uvtx: u8,
-    // Skip is set, and the block is inter.
+    // Whether the block is inter and has no coefficients: its inner transform edges are not filtered.
     pub skipped: bool,
-    // The cell has a level.
+    // Whether the cell has a level.
     pub present: bool,
     // 0 to 63; 0 where there is none.
     pub level: u8,

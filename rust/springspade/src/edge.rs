@@ -50,9 +50,9 @@ pub struct EdgeFacts {
     pub is_block_edge: bool,
     /// Whether it lies on an edge of its transform.
     pub is_tx_edge: bool,
-    /// Whether its edge is the superblock's first or middle one, in steps of 32 luma samples.
+    /// Whether its edge has a number that is a multiple of 8.
     pub is_32_edge: bool,
-    /// Whether it lies inside the frame and not on its left or upper border.
+    /// Whether it lies inside the frame, and its edge is not the frame's left or upper border.
     pub on_screen: bool,
     /// Whether it is filtered, if its level is above 0.
     pub apply_filter: bool,

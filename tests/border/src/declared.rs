@@ -185,6 +185,11 @@ impl Type {
         }
     }
 
+    /// Whether the function may write to it.
+    pub fn is_written(&self) -> bool {
+        matches!(self, Type::Slice { written: true, .. } | Type::Array { written: true, .. })
+    }
+
     /// What it is, or what it is a list of.
     pub fn element(&self) -> &str {
         match self {

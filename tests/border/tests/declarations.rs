@@ -37,7 +37,8 @@ fn arguments(border: &Border, function: &Function) -> Vec<Variable> {
     arguments.flat_map(|argument| numbers(argument).unwrap_or(vec![argument.clone()])).collect()
 }
 
-/// Arguments of one name have one type, and two of them stand in one order, whatever the function.
+/// Arguments of one name have one type, and two of them stand in one order, whatever the function. A list that one
+/// function fills and another reads counts as two: what is made comes last.
 #[test]
 fn arguments_have_one_type_and_one_order() {
     let border = Border::read(&root());
@@ -45,14 +46,15 @@ fn arguments_have_one_type_and_one_order() {
     for function in &border.functions {
         let arguments = arguments(&border, function);
         for (k, Variable { name, kind, .. }) in arguments.iter().enumerate() {
-            // What one function reads another may write.
             let element = kind.element().to_string();
             let known = types.entry(name.clone()).or_insert(element.clone());
             assert_eq!(*known, element, "{name} of {}", function.name);
+            let meaning = |a: &Variable| (a.name.clone(), a.kind.is_written());
             for later in &arguments[k + 1..] {
-                let turned = orders.contains(&(later.name.clone(), name.clone()));
+                let (first, second) = (meaning(&arguments[k]), meaning(later));
+                let turned = orders.contains(&(second.clone(), first.clone()));
                 assert!(!turned, "{} has {name} before {}", function.name, later.name);
-                orders.insert((name.clone(), later.name.clone()));
+                orders.insert((first, second));
             }
         }
     }
