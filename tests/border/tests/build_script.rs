@@ -31,8 +31,12 @@ fn put_archive(folder: &Folder, seconds: u64) {
 fn without_an_archive_checks_pass_and_a_link_names_the_command() {
     let folder = repository("absent");
     let at = folder.path("rust/springspade");
-    for command in ["check", "doc"] {
-        let (passed, said) = cargo(&at, &[command]);
+    let (has_clippy, _) = cargo(&at, &["clippy", "--version"]);
+    let clippy: &[&str] = &["clippy", "--all-targets", "--", "-D", "warnings"];
+    let commands: [&[&str]; 3] =
+        [&["check"], &["doc"], if has_clippy { clippy } else { &["check"] }];
+    for command in commands {
+        let (passed, said) = cargo(&at, command);
         assert!(passed && said.contains("`tools/archive` builds it"), "{said}");
     }
     let (passed, said) = cargo(&at, &["build", "--example", "frame"]);

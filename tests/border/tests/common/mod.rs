@@ -50,7 +50,7 @@ impl Drop for Folder {
 /// Whether cargo succeeds, and all that it says.
 pub fn cargo(at: &Path, arguments: &[&str]) -> (bool, String) {
     let mut command = Command::new(env!("CARGO"));
-    command.current_dir(at).args(arguments).arg("--offline");
+    command.current_dir(at).arg("--offline").args(arguments);
     command.env("CARGO_TARGET_DIR", at.join("built")).env_remove("SPRINGSPADE_LIB");
     let output = command.output().unwrap();
     let said = [output.stdout, output.stderr].map(|said| String::from_utf8(said).unwrap()).concat();
