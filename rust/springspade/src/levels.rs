@@ -10,7 +10,7 @@ pub struct LoopFilter {
     pub level: u8,
     /// loop_filter_delta_enabled.
     pub delta_enabled: bool,
-    /// loop_filter_delta_update.
+    /// loop_filter_delta_update, which no header has without loop_filter_delta_enabled.
     pub delta_update: bool,
     /// By reference: intra, last, golden, altref. None is absent from the header and counts as 1, 0, -1, -1.
     pub ref_deltas: [Option<i8>; 4],

@@ -14,7 +14,7 @@
 //! plane is subsampled, also where the picture that is shown is smaller.
 //!
 //! Nothing is asked of a caller but by [`pass_unchecked`]. A call that is refused gives [`Refused`] and leaves all that
-//! was lent as it was. No call allocates or keeps anything, so calls may run on several threads.
+//! was lent as it was. No call keeps anything, so calls may run on several threads.
 //!
 //! ```
 //! let strength = springspade::strength(32, 0)?;
