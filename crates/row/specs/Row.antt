@@ -13,7 +13,7 @@ use Rattle.base.specs.Outcome.{Outcome, accepted, refuse, Returned}
 use Rattle.blocks.specs.BlockSizes.{miWidthLog2, miHeightLog2, uvTxSize}
 use Rattle.blocks.specs.ModeInfo.{badBlock, sbSize, isIntra}
 use Rattle.geometry.specs.Frame.{badSubsampling, badFrameSize, badStart, cellsFrom}
-use Rattle.levels.specs.Levels.{lookupOf, isFound, foundLevel}
+use Rattle.level_lookup.specs.LevelLookup.{lookupOf, isFound, foundLevel}
 use Rattle.strength.specs.Strength.{modeType}
 use Rattle.cells.specs.Cell.{packed}
 use Rattle.cells.specs.declared.LfCell.{LfCell}

@@ -20,8 +20,8 @@ use Rattle.blocks.specs.BlockSizesLaws.{uv-tx-small}
 use Rattle.blocks.specs.ModeInfo.{sbSize, isIntra}
 use Rattle.blocks.specs.ModeInfoLaws.{block}
 use Rattle.geometry.specs.Frame.{badSubsampling, badFrameSize, badStart, cellsFrom}
-use Rattle.levels.specs.Levels.{levelAt}
-use Rattle.levels.specs.LevelTableLaws.{lookup-entry, lookup-segment, lookup-large, lookup-negative}
+use Rattle.level_lookup.specs.LevelLookup.{levelAt}
+use Rattle.level_lookup.specs.LevelLookupLaws.{lookup-entry, lookup-segment, lookup-large, lookup-negative}
 use Rattle.strength.specs.Strength.{modeType}
 use Rattle.strength.specs.StrengthLaws.{mode-type-small}
 use Rattle.cells.specs.Cell.{cellOf, widthLog2, heightLog2, txOf}

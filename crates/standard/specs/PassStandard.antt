@@ -26,7 +26,7 @@ use Rattle.edge_steps.specs.SuperblockFilter.{onScreen, applyFilter}
 use Rattle.decisions.specs.declared.Decision.{Decision}
 use Rattle.geometry.specs.Frame.{cellsFrom}
 use Rattle.geometry.specs.declared.Pass.{Pass}
-use Rattle.levels.specs.Levels.{levelAt}
+use Rattle.level_lookup.specs.LevelLookup.{levelAt}
 use Rattle.order.specs.Grid.{grid, grid-mem, select-mem, select-passes, select-same}
 use Rattle.order.specs.Order.{run, run-same}
 use Rattle.decided.specs.Decided.{Position, position, Setting, setting, decisionAt, isDecided, decided, settingOf}

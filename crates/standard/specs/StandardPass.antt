@@ -15,7 +15,7 @@ use Rattle.edges.specs.declared.SuperblockFilterMi.{SuperblockFilterMi}
 use Rattle.geometry.specs.Coordinates.{shr}
 use Rattle.geometry.specs.declared.Pass.{Pass}
 use Rattle.geometry.specs.declared.Superblock.{Superblock}
-use Rattle.levels.specs.Levels.{levelAt}
+use Rattle.level_lookup.specs.LevelLookup.{levelAt}
 use Rattle.line.specs.SampleFiltering.{sampleFiltering}
 use Rattle.order.specs.Grid.{select, grid}
 use Rattle.order.specs.Order.{run}

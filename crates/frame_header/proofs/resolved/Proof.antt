@@ -1,7 +1,7 @@
 use borrow.Author.Needs.{needs}
-use Rattle.levels.specs.Params.{resolvedDelta}
-use Rattle.levels.proofs.loop_filter.resolved.Statement.{statement}
-use Rattle.levels.proofs.loop_filter.resolved.Tie as tie
+use Rattle.frame_header.specs.Params.{resolvedDelta}
+use Rattle.frame_header.proofs.resolved.Statement.{statement}
+use Rattle.frame_header.proofs.resolved.Tie as tie
 
 returns : tie.Need-returns
 unfolding resolvedDelta

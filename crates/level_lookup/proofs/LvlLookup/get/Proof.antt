@@ -1,7 +1,7 @@
 use borrow.Author.Needs.{needs}
 use mir.Facts.{toZ-ofZ}
-use Rattle.levels.proofs.loop_filter.LvlLookup.get.Statement.{statement}
-use Rattle.levels.proofs.loop_filter.LvlLookup.get.Tie as tie
+use Rattle.level_lookup.proofs.LvlLookup.get.Statement.{statement}
+use Rattle.level_lookup.proofs.LvlLookup.get.Tie as tie
 
 returns : tie.Need-returns
 returns c = rw (toZ-ofZ (c .before .before .before .fits .ref-frame)) at (c .find-level .ensures)

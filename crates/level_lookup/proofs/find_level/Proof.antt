@@ -3,10 +3,10 @@ use borrow.Author.Tests.{lt-ltb, le-ltb}
 use native.Mathlib.Omega.{arith}
 use lib.Signed.{natAbs-le}
 use mir.Facts.{toZ-ofZ}
-use Rattle.levels.specs.Levels.{lookupOf}
-use Rattle.levels.proofs.LevelLaws.{not-negative}
-use Rattle.levels.proofs.loop_filter.find_level.Statement.{statement}
-use Rattle.levels.proofs.loop_filter.find_level.Tie as tie
+use Rattle.level_lookup.specs.LevelLookup.{lookupOf}
+use Rattle.level_lookup.specs.LevelLookupLaws.{not-negative}
+use Rattle.level_lookup.proofs.find_level.Statement.{statement}
+use Rattle.level_lookup.proofs.find_level.Tie as tie
 
 returns : tie.Need-returns
 unfolding lookupOf

@@ -1,8 +1,8 @@
 use borrow.Author.Needs.{needs}
 use borrow.Author.Tests.{lt-ltb, le-ltb}
-use Rattle.levels.specs.Params.{segFeatureActive}
-use Rattle.levels.proofs.dequant.seg_feature_active.Statement.{statement}
-use Rattle.levels.proofs.dequant.seg_feature_active.Tie as tie
+use Rattle.frame_header.specs.Params.{segFeatureActive}
+use Rattle.frame_header.proofs.seg_feature_active.Statement.{statement}
+use Rattle.frame_header.proofs.seg_feature_active.Tie as tie
 
 returns : tie.Need-returns
 unfolding segFeatureActive

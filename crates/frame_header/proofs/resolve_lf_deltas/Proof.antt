@@ -2,9 +2,9 @@ use borrow.Author.Needs.{needs}
 use mathlib.Core.Path.{_∙_}
 use mir.Syntax.{w8}
 use Rattle.base.specs.Machine.{back}
-use Rattle.levels.specs.Params.{resolvedFrom}
-use Rattle.levels.proofs.loop_filter.resolve_lf_deltas.Statement.{statement}
-use Rattle.levels.proofs.loop_filter.resolve_lf_deltas.Tie as tie
+use Rattle.frame_header.specs.Params.{resolvedFrom}
+use Rattle.frame_header.proofs.resolve_lf_deltas.Statement.{statement}
+use Rattle.frame_header.proofs.resolve_lf_deltas.Tie as tie
 
 returns : tie.Need-returns
 unfolding resolvedFrom

@@ -6,10 +6,10 @@ use Prim.Native.Nat.{ℕ, _+_, _*_}
 use lib.Dec.{ltb}
 use lib.IntN.{ℤ, pos, negℤ}
 use lib.ListN.{getD}
-use Rattle.levels.specs.declared.header.Delta.{Delta}
-use Rattle.levels.specs.declared.header.LoopFilterParams.{LoopFilterParams}
-use Rattle.levels.specs.declared.header.SegmentationParams.{SegmentationParams}
-use Rattle.levels.specs.declared.loop_filter.Deltas.{Deltas}
+use Rattle.frame_header.specs.declared.Delta.{Delta}
+use Rattle.frame_header.specs.declared.LoopFilterParams.{LoopFilterParams}
+use Rattle.frame_header.specs.declared.SegmentationParams.{SegmentationParams}
+use Rattle.frame_header.specs.declared.Deltas.{Deltas}
 
 -- where the flat lists hold a segment's feature
 abbrev pub featureAt : ℕ → ℕ → ℕ
