@@ -12,7 +12,7 @@ use Rattle.base.specs.Depth.{supported}
 use Rattle.base.specs.First.{found}
 use Rattle.base.specs.Outcome.{Outcome, accepted, refused, refuse, Answers}
 use Rattle.base.specs.OutcomeLaws.{passed}
-use Rattle.cells.specs.Cell.{badCell}
+use Rattle.bad_words.specs.BadWord.{badCell}
 use Rattle.decided.specs.Decided.{Setting}
 use Rattle.decisions.specs.Decision.{levelless}
 use Rattle.geometry.specs.Frame.{badSubsampling, badFrameSize, badStart, cellsFrom}

@@ -11,7 +11,8 @@ use Rattle.base.specs.Filled.{filled}
 use Rattle.base.specs.First.{found, firstFrom}
 use Rattle.base.specs.Notation.{Clip3}
 use Rattle.base.specs.Outcome.{Outcome, refused, returned}
-use Rattle.cells.specs.Cell.{cellOf, badWord}
+use Rattle.cells.specs.Cell.{cellOf}
+use Rattle.bad_words.specs.BadWord.{badWord}
 use Rattle.decisions.specs.Decision.{cellIndex, decisionBy, decision, levelless}
 use Rattle.edge_steps.specs.FilterSize.{filterSize}
 use Rattle.edge_steps.specs.SuperblockFilter.{loopCell, isBlockEdge, isTxEdge, is32Edge, onScreen, applyFilter}

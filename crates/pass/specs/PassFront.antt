@@ -14,7 +14,8 @@ use Rattle.base.specs.Depth.{supported}
 use Rattle.base.specs.First.{found, first, refuseFirst}
 use Rattle.base.specs.FirstLaws.{found-same, first-same}
 use Rattle.base.specs.Outcome.{Outcome, accepted, refuse}
-use Rattle.cells.specs.Cell.{cellOf, badWord, badCell}
+use Rattle.cells.specs.Cell.{cellOf}
+use Rattle.bad_words.specs.BadWord.{badWord, badCell}
 use Rattle.decided.specs.Decided.{Position, position, Setting, setting, settingOf, superblockOf, decisionAt, isDecided, decided, filters}
 use Rattle.decisions.specs.Decision.{cellIndex, decisionBy, decision, withoutLevel, levelless}
 use Rattle.decisions.specs.declared.Decision.{Decision}

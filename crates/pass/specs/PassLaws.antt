@@ -11,7 +11,7 @@ use Rattle.base.specs.Depth.{supported}
 use Rattle.base.specs.First.{found, first-is}
 use Rattle.base.specs.Outcome.{accepted, returned}
 use Rattle.base.specs.OutcomeLaws.{result-is, refuse-place}
-use Rattle.cells.specs.Cell.{badCell}
+use Rattle.bad_words.specs.BadWord.{badCell}
 use Rattle.decided.specs.Decided.{Setting, settingOf}
 use Rattle.decisions.specs.Decision.{levelless}
 use Rattle.faults.specs.FaultsLaws.{Numbers, numbers-passed, Lists, lists-passed}

@@ -15,8 +15,9 @@ use Rattle.base.specs.Filled.{filled, filled-at, filled-other}
 use Rattle.base.specs.First.{found, found-false}
 use Rattle.base.specs.Outcome.{accepted}
 use Rattle.base.specs.OutcomeLaws.{passed, result-is}
-use Rattle.blocks.specs.BlockSizes.{miWidthLog2, miHeightLog2, num8x8Wide, num8x8High, uvTxSize}
-use Rattle.blocks.specs.BlockSizesLaws.{uv-tx-small}
+use Rattle.blocks.specs.BlockSizes.{miWidthLog2, miHeightLog2, num8x8Wide, num8x8High}
+use Rattle.chroma_transforms.specs.ChromaTransforms.{uvTxSize}
+use Rattle.chroma_transforms.specs.ChromaTransformsLaws.{uv-tx-small}
 use Rattle.blocks.specs.ModeInfo.{sbSize, isIntra}
 use Rattle.blocks.specs.ModeInfoLaws.{block}
 use Rattle.geometry.specs.Frame.{badSubsampling, badFrameSize, badStart, cellsFrom}

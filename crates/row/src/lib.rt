@@ -12,7 +12,7 @@ mod word;
 use base::is_supported;
 use blocks::partition::mi_height_log2_table;
 use blocks::partition::mi_width_log2_table;
-use blocks::residual::uv_limit_table;
+use chroma_transforms::uv_limit_table;
 use faults::any_bad_block;
 use faults::any_bad_level;
 use faults::first_bad_block;

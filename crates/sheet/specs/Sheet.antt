@@ -6,7 +6,8 @@ use lib.Dec.{ltb}
 use lib.ListN.{length}
 use Rattle.base.specs.First.{refuseFirst}
 use Rattle.base.specs.Outcome.{Outcome, accepted, refused, refuse}
-use Rattle.cells.specs.Cell.{badCell, wordsAt}
+use Rattle.word_bytes.specs.WordBytes.{wordsAt}
+use Rattle.bad_words.specs.BadWord.{badCell}
 use Rattle.decided.specs.Decided.{Setting, settingOf}
 use Rattle.decided.specs.Runs.{runs}
 use Rattle.decided.specs.declared.EdgeRun.{EdgeRun}

@@ -12,7 +12,7 @@ use lib.ListN.{length, length-append}
 use Rattle.base.specs.Depth.{supported}
 use Rattle.base.specs.First.{found, first-is}
 use Rattle.base.specs.Outcome.{Outcome, accepted, refused, refuse}
-use Rattle.cells.specs.Cell.{badCell}
+use Rattle.bad_words.specs.BadWord.{badCell}
 use Rattle.decided.specs.RunsLaws.{Small, runs-small, runs-count}
 use Rattle.decided.specs.declared.EdgeRun.{EdgeRun}
 use Rattle.decisions.specs.Decision.{levelless}

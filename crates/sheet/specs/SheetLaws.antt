@@ -9,7 +9,7 @@ use lib.ListN.{length}
 use borrow.Author.Tests.{lt-ltb, le-ltb}
 use Rattle.base.specs.First.{found, first}
 use Rattle.base.specs.Outcome.{Outcome, accepted, refused}
-use Rattle.cells.specs.Cell.{badCell}
+use Rattle.bad_words.specs.BadWord.{badCell}
 use Rattle.decided.specs.Runs.{runs}
 use Rattle.decided.specs.declared.EdgeRun.{EdgeRun}
 use Rattle.decisions.specs.Decision.{levelless}

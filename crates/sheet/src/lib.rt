@@ -13,9 +13,8 @@ ghost use Rattle.sheet.specs.SheetAnswers.{answerOf, textOf};
 
 mod runs;
 
-use cells::any_bad_word_unchecked;
-use cells::bytes::words_at_unchecked;
-use cells::first_bad_word_unchecked;
+use bad_words::any_bad_word_unchecked;
+use bad_words::first_bad_word_unchecked;
 use decided::superblock_of;
 use decisions::first_levelless_unchecked;
 use faults::PassAnswer;
@@ -31,6 +30,7 @@ use sheet_lines::header::bad_header;
 use sheet_lines::header::header_of_unchecked;
 use sheet_lines::print::print_first_unchecked;
 use sheet_lines::print::print_refusal_unchecked;
+use word_bytes::words_at_unchecked;
 
 // How many bytes of text were written, or that the buffer has too little room.
 pub enum SheetAnswer {

@@ -8,7 +8,7 @@ use native.Mathlib.Omega.{arith}
 use borrow.Author.Tests.{ltb-false}
 use lib.Dec.{eqb}
 use Rattle.base.specs.Tests.{neither}
-use Rattle.cells.specs.Cell.{bytesAt}
+use Rattle.word_bytes.specs.WordBytes.{bytesAt}
 use Rattle.sheet_lines.specs.SheetLines.{headerOf, badHeader}
 use Rattle.sheet_lines.specs.declared.header.SheetHeader.{SheetHeader}
 

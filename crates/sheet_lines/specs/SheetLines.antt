@@ -4,7 +4,7 @@ use mathlib.Core.Bool.{Bool, cond, not, _||_}
 use mathlib.Core.List.{List, [], _∷_, _++_}
 use Prim.Native.Nat.{ℕ, _+_, _*_, _/_, _%_, _^_}
 use lib.Dec.{eqb, ltb}
-use Rattle.cells.specs.Cell.{bytesAt}
+use Rattle.word_bytes.specs.WordBytes.{bytesAt}
 use Rattle.decided.specs.declared.EdgeRun.{EdgeRun}
 use Rattle.text.specs.Text.{decimal}
 use Rattle.sheet_lines.specs.declared.header.SheetHeader.{SheetHeader}

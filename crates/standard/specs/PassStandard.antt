@@ -12,7 +12,7 @@ use lib.ListN.{getD}
 use borrow.Author.Tests.{not-false}
 use Rattle.base.specs.First.{found, found-false}
 use Rattle.base.specs.Outcome.{accepted}
-use Rattle.blocks.specs.BlockSizes.{uvTxSize}
+use Rattle.chroma_transforms.specs.ChromaTransforms.{uvTxSize}
 use Rattle.blocks.specs.ModeInfo.{isIntra}
 use Rattle.cells.specs.Cell.{cellOf, txOf}
 use Rattle.cells.specs.declared.LfCell.{LfCell}

@@ -6,7 +6,7 @@ use Prim.Native.Nat.{ℕ}
 use lib.Dec.{ltb}
 use lib.IntN.{pos, natAbs}
 use lib.ListN.{getD}
-use Rattle.blocks.specs.BlockSizes.{uvTxSize}
+use Rattle.chroma_transforms.specs.ChromaTransforms.{uvTxSize}
 use Rattle.decisions.specs.Decision.{cellIndex}
 use Rattle.edges.specs.Edge.{edgeFacts}
 use Rattle.positions.specs.Positions.{edgeCount, edgeLen}

@@ -6,7 +6,7 @@ use Prim.Native.Nat.{ℕ, _*_, _<_}
 use native.Mathlib.Omega.{arith}
 use Rattle.base.specs.First.{found, first, first-is}
 use Rattle.base.specs.FirstLaws.{first-below, first-past}
-use Rattle.cells.specs.Cell.{badCell}
+use Rattle.bad_words.specs.BadWord.{badCell}
 use Rattle.positions.specs.Positions.{passOf, edgeCount}
 use Rattle.positions.specs.PositionsLaws.{edge-count-small}
 use Rattle.sheet.specs.Sheet.{sheetSetting}

@@ -1,7 +1,7 @@
 use borrow.Author.Needs.{needs}
 use mathlib.Core.Path.{_≡_}
 use Prim.Native.Nat.{_+_, _*_}
-use Rattle.cells.specs.Cell.{bytesAt}
+use Rattle.word_bytes.specs.WordBytes.{bytesAt}
 use Rattle.sheet_lines.specs.HeaderLaws.{bits-halves}
 use Rattle.sheet_lines.specs.SheetLines.{headerOf}
 use Rattle.sheet_lines.proofs.header.header_of_unchecked.Statement.{statement}
