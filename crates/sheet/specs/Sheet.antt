@@ -15,8 +15,9 @@ use Rattle.decisions.specs.Decision.{levelless}
 use Rattle.geometry.specs.Frame.{cellsFrom}
 use Rattle.faults.specs.Faults.{numbersRefused}
 use Rattle.positions.specs.Positions.{passOf, edgeCount}
-use Rattle.sheet_lines.specs.SheetLines.{headerOf, badHeader, firstLine, runLines, refusalLine}
-use Rattle.sheet_lines.specs.declared.header.SheetHeader.{SheetHeader}
+use Rattle.sheet_lines.specs.SheetLines.{firstLine, runLines, refusalLine}
+use Rattle.sheet_header.specs.SheetHeader.{headerOf, badHeader}
+use Rattle.sheet_header.specs.declared.SheetHeader.{SheetHeader}
 
 -- ---- the sheet
 

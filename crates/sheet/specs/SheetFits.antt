@@ -20,10 +20,11 @@ use Rattle.geometry.specs.Frame.{badSubsampling, badFrameSize, badStart, rowsFr
 use Rattle.faults.specs.Faults.{numbersRefused}
 use Rattle.positions.specs.Positions.{passOf, edgeCount}
 use Rattle.positions.specs.PositionsLaws.{edge-count-small}
-use Rattle.sheet_lines.specs.HeaderLaws.{header-small, header-narrow}
+use Rattle.sheet_header.specs.SheetHeaderLaws.{header-small, header-narrow}
 use Rattle.sheet_lines.specs.LineLaws.{first-length, lines-length, refusal-length}
-use Rattle.sheet_lines.specs.SheetLines.{headerOf, badHeader, firstLine, runLines, refusalLine}
-use Rattle.sheet_lines.specs.declared.header.SheetHeader.{SheetHeader}
+use Rattle.sheet_lines.specs.SheetLines.{firstLine, runLines, refusalLine}
+use Rattle.sheet_header.specs.SheetHeader.{headerOf, badHeader}
+use Rattle.sheet_header.specs.declared.SheetHeader.{SheetHeader}
 use Rattle.sheet.specs.Sheet.{sheetSetting, cellsRuns, cellsOf, sheetRuns, printed, runSheet}
 use Rattle.sheet.specs.SheetAnswers.{answerOf}
 use Rattle.sheet.specs.declared.SheetAnswer.the-variants.{Written}

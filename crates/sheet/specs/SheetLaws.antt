@@ -17,9 +17,9 @@ use Rattle.geometry.specs.Frame.{cellsFrom}
 use Rattle.faults.specs.Faults.{numbersRefused}
 use Rattle.positions.specs.Positions.{passOf, edgeCount}
 use Rattle.text.specs.Text.{Put}
-use Rattle.sheet_lines.specs.SheetLines.{headerOf, badHeader}
+use Rattle.sheet_header.specs.SheetHeader.{headerOf, badHeader}
 use Rattle.sheet.specs.Sheet.{sheetSetting, cellsOf, cellsRuns, sheetRuns, printed, runSheet}
-use Rattle.sheet_lines.specs.declared.header.SheetHeader.{SheetHeader}
+use Rattle.sheet_header.specs.declared.SheetHeader.{SheetHeader}
 
 module _ (bytes : List ℕ) where
   pub sheet-short : length bytes < 8 → sheetRuns bytes ≡ refused 7 0

@@ -19,7 +19,7 @@ use decided::no_run;
 use geometry::Pass;
 use geometry::Superblock;
 use positions::edge_count;
-use sheet_lines::print::print_run_unchecked;
+use sheet_lines::print_run_unchecked;
 
 // Where the text ends, and the run that may still grow.
 pub(crate) struct Printed {

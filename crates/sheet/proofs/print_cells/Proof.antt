@@ -12,7 +12,7 @@ use Rattle.positions.specs.PositionsLaws.{edge-count-small}
 use Rattle.sheet.specs.Sheet.{sheetSetting}
 use Rattle.sheet.specs.SheetFits.{cells-few}
 use Rattle.sheet.specs.SheetLaws.{cellCount, gridPlaces, levellessAt, cells-bad, cells-without, cells-good}
-use Rattle.sheet_lines.specs.declared.header.SheetHeader.{SheetHeader}
+use Rattle.sheet_header.specs.declared.SheetHeader.{SheetHeader}
 use Rattle.text.specs.TextLaws.{put-then}
 use Rattle.sheet.proofs.print_cells.Statement.{statement}
 use Rattle.sheet.proofs.print_cells.Tie as tie

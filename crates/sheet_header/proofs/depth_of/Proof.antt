@@ -1,7 +1,7 @@
 use borrow.Author.Needs.{needs}
 use borrow.Author.Tests.{lt-ltb, le-ltb}
-use Rattle.sheet_lines.proofs.header.depth_of.Statement.{statement}
-use Rattle.sheet_lines.proofs.header.depth_of.Tie as tie
+use Rattle.sheet_header.proofs.depth_of.Statement.{statement}
+use Rattle.sheet_header.proofs.depth_of.Tie as tie
 
 returns : tie.Need-returns
 returns c = rw (lt-ltb (c .before .args .code) 3 (c .if1 .taken))

@@ -1,8 +1,8 @@
 use borrow.Author.Needs.{needs}
 use Rattle.sheet_lines.specs.SheetLines.{refusalLine}
 use Rattle.text.specs.TextLaws.{put-then}
-use Rattle.sheet_lines.proofs.print.print_refusal_unchecked.Statement.{statement}
-use Rattle.sheet_lines.proofs.print.print_refusal_unchecked.Tie as tie
+use Rattle.sheet_lines.proofs.print_refusal_unchecked.Statement.{statement}
+use Rattle.sheet_lines.proofs.print_refusal_unchecked.Tie as tie
 
 returns : tie.Need-returns
 unfolding refusalLine

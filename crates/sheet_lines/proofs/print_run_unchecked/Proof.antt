@@ -2,8 +2,8 @@ use borrow.Author.Needs.{needs}
 use native.Mathlib.Omega.{arith}
 use Rattle.sheet_lines.specs.SheetLines.{runLine}
 use Rattle.text.specs.TextLaws.{put-then}
-use Rattle.sheet_lines.proofs.print.print_run_unchecked.Statement.{statement}
-use Rattle.sheet_lines.proofs.print.print_run_unchecked.Tie as tie
+use Rattle.sheet_lines.proofs.print_run_unchecked.Statement.{statement}
+use Rattle.sheet_lines.proofs.print_run_unchecked.Tie as tie
 
 returns : tie.Need-returns
 unfolding runLine

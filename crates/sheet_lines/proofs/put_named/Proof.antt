@@ -3,8 +3,8 @@ use native.Mathlib.Omega.{arith}
 use lib.ListN.{length-append}
 use Rattle.text.specs.Text.{decimal}
 use Rattle.text.specs.TextLaws.{put-then, decimal-length}
-use Rattle.sheet_lines.proofs.print.put_named.Statement.{statement}
-use Rattle.sheet_lines.proofs.print.put_named.Tie as tie
+use Rattle.sheet_lines.proofs.put_named.Statement.{statement}
+use Rattle.sheet_lines.proofs.put_named.Tie as tie
 
 returns : tie.Need-returns
 returns c =

@@ -2,7 +2,7 @@
 ghost use mathlib.Core.Path.{_≡_};
 ghost use Prim.Native.Nat.{_≤_, _<_};
 ghost use lib.ListN.{length};
-ghost use Rattle.sheet_lines.specs.SheetLines.{depthOf, headerOf, badHeader};
+ghost use Rattle.sheet_header.specs.SheetHeader.{depthOf, headerOf, badHeader};
 use word_bytes::word_at_unchecked;
 
 // MiCols and MiRows, subsampling, sharpness, depth (0 where the code is none), plane, pass, row base and column in cells, and

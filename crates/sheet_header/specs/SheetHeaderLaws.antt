@@ -9,8 +9,8 @@ use borrow.Author.Tests.{ltb-false}
 use lib.Dec.{eqb}
 use Rattle.base.specs.Tests.{neither}
 use Rattle.word_bytes.specs.WordBytes.{bytesAt}
-use Rattle.sheet_lines.specs.SheetLines.{headerOf, badHeader}
-use Rattle.sheet_lines.specs.declared.header.SheetHeader.{SheetHeader}
+use Rattle.sheet_header.specs.SheetHeader.{headerOf, badHeader}
+use Rattle.sheet_header.specs.declared.SheetHeader.{SheetHeader}
 
 pub record Header (h : SheetHeader) : Type 0 where
   pub plane : h .plane ≤ 3

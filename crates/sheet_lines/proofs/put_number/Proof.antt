@@ -4,8 +4,8 @@ use native.Mathlib.Omega.{arith}
 use lib.ListN.{length-append}
 use Rattle.text.specs.Text.{decimal}
 use Rattle.text.specs.TextLaws.{put-then, decimal-length}
-use Rattle.sheet_lines.proofs.print.put_number.Statement.{statement}
-use Rattle.sheet_lines.proofs.print.put_number.Tie as tie
+use Rattle.sheet_lines.proofs.put_number.Statement.{statement}
+use Rattle.sheet_lines.proofs.put_number.Tie as tie
 
 put-byte-unchecked-requires : tie.Need-put-byte-unchecked-requires
 put-byte-unchecked-requires c κs =
