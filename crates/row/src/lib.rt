@@ -36,8 +36,8 @@ pub enum RowAnswer {
     Block(usize),
 }
 
-// The work without the tests, for a caller that has made them. The lists start at the row's first cell.
-pub fn row_cells_unchecked(
+// The work, once the tests are made. The lists start at the row's first cell.
+fn row_cells_unchecked(
     mi_sizes: &[u8],
     tx_sizes: &[u8],
     skips: &[u8],
