@@ -13,7 +13,7 @@ use Rattle.decided.specs.Decided.{Setting}
 use Rattle.decisions.specs.Decision.{levelless}
 use Rattle.geometry.specs.Frame.{badSubsampling, badFrameSize, badStart, cellsFrom}
 use Rattle.geometry.specs.declared.Pass.{Pass}
-use Rattle.positions.specs.Positions.{edgeCount}
+use Rattle.pass_edges.specs.PassEdges.{edgeCount}
 use Rattle.window.specs.Window.{badWindow, badSample}
 use Rattle.window.specs.declared.WindowShape.{WindowShape}
 use Rattle.faults.specs.declared.PassAnswer.{PassAnswer}

@@ -17,7 +17,8 @@ use Rattle.decided.specs.Decided.{Setting}
 use Rattle.decisions.specs.Decision.{levelless}
 use Rattle.geometry.specs.Frame.{badSubsampling, badFrameSize, badStart, cellsFrom}
 use Rattle.geometry.specs.declared.Pass.{Pass}
-use Rattle.positions.specs.Positions.{Placed, edgeCount}
+use Rattle.positions.specs.Positions.{Placed}
+use Rattle.pass_edges.specs.PassEdges.{edgeCount}
 use Rattle.positions.specs.PositionsLaws.{placed}
 use Rattle.window.specs.Window.{badWindow, badSample}
 use Rattle.window.specs.WindowLaws.{Lent, lent}

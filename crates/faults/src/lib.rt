@@ -21,7 +21,7 @@ use geometry::bad_frame_size;
 use geometry::bad_start;
 use geometry::bad_subsampling;
 use geometry::cell_count_unchecked;
-use positions::edge_count;
+use pass_edges::edge_count;
 use window::WindowShape;
 use window::any_bad_sample_unchecked;
 use window::bad_window;

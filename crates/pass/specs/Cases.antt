@@ -16,7 +16,8 @@ use Rattle.bad_words.specs.BadWord.{badWord}
 use Rattle.decisions.specs.Decision.{cellIndex, decisionBy, decision, levelless}
 use Rattle.edge_steps.specs.FilterSize.{filterSize}
 use Rattle.edge_steps.specs.SuperblockFilter.{loopCell, isBlockEdge, isTxEdge, is32Edge, onScreen, applyFilter}
-use Rattle.positions.specs.Positions.{edgeCount, edgeLen, lumaX, lumaY, planeX, planeY}
+use Rattle.positions.specs.Positions.{lumaX, lumaY, planeX, planeY}
+use Rattle.pass_edges.specs.PassEdges.{edgeCount, edgeLen}
 use Rattle.geometry.specs.Frame.{badSubsampling, badFrameSize, badStart}
 use Rattle.geometry.specs.declared.Pass.the-variants.{Vertical}
 use Rattle.line.specs.Masks.{hevMask, filterMask, flatAt, flatMask}

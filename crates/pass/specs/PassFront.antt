@@ -28,7 +28,8 @@ use Rattle.geometry.specs.declared.Pass.{Pass}
 use Rattle.geometry.specs.declared.Superblock.{Superblock}
 use Rattle.order.specs.Grid.{grid, grid-mem, select-mem, select-same}
 use Rattle.order.specs.Order.{run, run-same}
-use Rattle.positions.specs.Positions.{Placed, edgeCount, edgeLen, lumaX, lumaY, passOf, planeX, planeY}
+use Rattle.positions.specs.Positions.{Placed, lumaX, lumaY, planeX, planeY}
+use Rattle.pass_edges.specs.PassEdges.{edgeCount, edgeLen, passOf}
 use Rattle.positions.specs.PositionsLaws.{placed}
 use Rattle.window.specs.Stencil.{applied}
 use Rattle.window.specs.Window.{badWindow, badSample, stencil}

@@ -17,8 +17,8 @@ use Rattle.decisions.specs.Decision.{levelless}
 use Rattle.faults.specs.FaultsLaws.{Numbers, numbers-passed, Lists, lists-passed}
 use Rattle.geometry.specs.Frame.{badSubsampling, badFrameSize, badStart, cellsFrom}
 use Rattle.geometry.specs.FrameLaws.{sized, cells-small}
-use Rattle.positions.specs.Positions.{passOf, edgeCount}
-use Rattle.positions.specs.PositionsLaws.{edge-count-small}
+use Rattle.pass_edges.specs.PassEdges.{passOf, edgeCount}
+use Rattle.pass_edges.specs.PassEdgesLaws.{edge-count-small}
 use Rattle.window.specs.SampleLaws.{samples-small}
 use Rattle.window.specs.Window.{badWindow, badSample}
 use Rattle.window.specs.WindowLaws.{lent}

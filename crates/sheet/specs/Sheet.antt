@@ -14,7 +14,7 @@ use Rattle.decided.specs.declared.EdgeRun.{EdgeRun}
 use Rattle.decisions.specs.Decision.{levelless}
 use Rattle.geometry.specs.Frame.{cellsFrom}
 use Rattle.faults.specs.Faults.{numbersRefused}
-use Rattle.positions.specs.Positions.{passOf, edgeCount}
+use Rattle.pass_edges.specs.PassEdges.{passOf, edgeCount}
 use Rattle.sheet_lines.specs.SheetLines.{firstLine, runLines, refusalLine}
 use Rattle.sheet_header.specs.SheetHeader.{headerOf, badHeader}
 use Rattle.sheet_header.specs.declared.SheetHeader.{SheetHeader}

@@ -18,8 +18,8 @@ use Rattle.decided.specs.declared.EdgeRun.{EdgeRun}
 use Rattle.decisions.specs.Decision.{levelless}
 use Rattle.geometry.specs.Frame.{badSubsampling, badFrameSize, badStart, rowsFrom, cellsFrom}
 use Rattle.faults.specs.Faults.{numbersRefused}
-use Rattle.positions.specs.Positions.{passOf, edgeCount}
-use Rattle.positions.specs.PositionsLaws.{edge-count-small}
+use Rattle.pass_edges.specs.PassEdges.{passOf, edgeCount}
+use Rattle.pass_edges.specs.PassEdgesLaws.{edge-count-small}
 use Rattle.sheet_header.specs.SheetHeaderLaws.{header-small, header-narrow}
 use Rattle.sheet_lines.specs.LineLaws.{first-length, lines-length, refusal-length}
 use Rattle.sheet_lines.specs.SheetLines.{firstLine, runLines, refusalLine}

@@ -15,7 +15,7 @@ use Rattle.decided.specs.declared.EdgeRun.{EdgeRun}
 use Rattle.decisions.specs.Decision.{levelless}
 use Rattle.geometry.specs.Frame.{cellsFrom}
 use Rattle.faults.specs.Faults.{numbersRefused}
-use Rattle.positions.specs.Positions.{passOf, edgeCount}
+use Rattle.pass_edges.specs.PassEdges.{passOf, edgeCount}
 use Rattle.text.specs.Text.{Put}
 use Rattle.sheet_header.specs.SheetHeader.{headerOf, badHeader}
 use Rattle.sheet.specs.Sheet.{sheetSetting, cellsOf, cellsRuns, sheetRuns, printed, runSheet}

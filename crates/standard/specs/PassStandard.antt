@@ -18,8 +18,9 @@ use Rattle.cells.specs.Cell.{cellOf, txOf}
 use Rattle.cells.specs.declared.LfCell.{LfCell}
 use Rattle.decisions.specs.Decision.{cellIndex, decisionBy, decision, withoutLevel, levelless}
 use Rattle.edges.specs.Edge.{edgeFacts}
-use Rattle.positions.specs.Positions.{passOf, Placed, sub, edgeCount, edgeLen, lumaX, lumaY, planeX, planeY}
-use Rattle.positions.specs.PositionsLaws.{edge-len-small}
+use Rattle.positions.specs.Positions.{Placed, lumaX, lumaY, planeX, planeY}
+use Rattle.pass_edges.specs.PassEdges.{passOf, sub, edgeCount, edgeLen}
+use Rattle.pass_edges.specs.PassEdgesLaws.{edge-len-small}
 use Rattle.decisions.specs.LevellessLaws.{levelless-at}
 use Rattle.edge_steps.specs.ScreenLaws.{seen, cell-below}
 use Rattle.edge_steps.specs.SuperblockFilter.{onScreen, applyFilter}

@@ -9,7 +9,7 @@ use lib.ListN.{getD}
 use Rattle.chroma_transforms.specs.ChromaTransforms.{uvTxSize}
 use Rattle.decisions.specs.Decision.{cellIndex}
 use Rattle.edges.specs.Edge.{edgeFacts}
-use Rattle.positions.specs.Positions.{edgeCount, edgeLen}
+use Rattle.pass_edges.specs.PassEdges.{edgeCount, edgeLen}
 use Rattle.edges.specs.declared.SuperblockFilterEdge.{SuperblockFilterEdge}
 use Rattle.edges.specs.declared.SuperblockFilterMi.{SuperblockFilterMi}
 use Rattle.geometry.specs.Coordinates.{shr}

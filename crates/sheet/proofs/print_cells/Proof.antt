@@ -7,8 +7,8 @@ use native.Mathlib.Omega.{arith}
 use Rattle.base.specs.First.{found, first, first-is}
 use Rattle.base.specs.FirstLaws.{first-below, first-past}
 use Rattle.bad_words.specs.BadWord.{badCell}
-use Rattle.positions.specs.Positions.{passOf, edgeCount}
-use Rattle.positions.specs.PositionsLaws.{edge-count-small}
+use Rattle.pass_edges.specs.PassEdges.{passOf, edgeCount}
+use Rattle.pass_edges.specs.PassEdgesLaws.{edge-count-small}
 use Rattle.sheet.specs.Sheet.{sheetSetting}
 use Rattle.sheet.specs.SheetFits.{cells-few}
 use Rattle.sheet.specs.SheetLaws.{cellCount, gridPlaces, levellessAt, cells-bad, cells-without, cells-good}

@@ -1,6 +1,6 @@
 use native.Mathlib.Omega.{arith}
-use Rattle.positions.proofs.halved.Statement.{statement}
-use Rattle.positions.proofs.halved.Tie as tie
+use Rattle.pass_edges.proofs.halved.Statement.{statement}
+use Rattle.pass_edges.proofs.halved.Tie as tie
 
 returns : tie.Need-returns
 returns c = (rw (c .if1 .taken), omega arith)

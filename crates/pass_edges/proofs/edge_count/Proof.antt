@@ -1,7 +1,7 @@
 use borrow.Author.Needs.{needs}
-use Rattle.positions.specs.Positions.{edgeCount}
-use Rattle.positions.proofs.edge_count.Statement.{statement}
-use Rattle.positions.proofs.edge_count.Tie as tie
+use Rattle.pass_edges.specs.PassEdges.{edgeCount}
+use Rattle.pass_edges.proofs.edge_count.Statement.{statement}
+use Rattle.pass_edges.proofs.edge_count.Tie as tie
 
 returns : tie.Need-returns
 unfolding edgeCount

@@ -1,7 +1,7 @@
 use borrow.Author.Needs.{needs}
-use Rattle.positions.specs.Positions.{edgeLen}
-use Rattle.positions.proofs.edge_len.Statement.{statement}
-use Rattle.positions.proofs.edge_len.Tie as tie
+use Rattle.pass_edges.specs.PassEdges.{edgeLen}
+use Rattle.pass_edges.proofs.edge_len.Statement.{statement}
+use Rattle.pass_edges.proofs.edge_len.Tie as tie
 
 returns : tie.Need-returns
 unfolding edgeLen

@@ -1,6 +1,6 @@
 use borrow.Author.Needs.{needs}
-use Rattle.positions.proofs.along.Statement.{statement}
-use Rattle.positions.proofs.along.Tie as tie
+use Rattle.pass_edges.proofs.along.Statement.{statement}
+use Rattle.pass_edges.proofs.along.Tie as tie
 
 returns : tie.Need-returns
 returns c = rw (c .before .enum-told .given .1) (c .halved .ensures)

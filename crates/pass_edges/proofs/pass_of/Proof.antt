@@ -1,6 +1,6 @@
 use borrow.Author.Tests.{eq-eqb, ne-eqb}
-use Rattle.positions.proofs.pass_of.Statement.{statement}
-use Rattle.positions.proofs.pass_of.Tie as tie
+use Rattle.pass_edges.proofs.pass_of.Statement.{statement}
+use Rattle.pass_edges.proofs.pass_of.Tie as tie
 
 returns : tie.Need-returns
 returns c = rw (eq-eqb _ _ (c .if1 .taken))
