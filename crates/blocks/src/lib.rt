@@ -1,4 +1,3 @@
-// Block sizes, their transforms, and what the loop filter reads of a cell's mode info.
+// Block sizes, and what the loop filter reads of a cell's mode info.
 pub mod mode_info;
 pub mod partition;
-pub mod residual;

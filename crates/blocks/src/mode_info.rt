@@ -1,7 +1,8 @@
 // What the loop filter reads of a cell's mode info.
 ghost use mathlib.Core.Path.{_≡_};
 ghost use Rattle.blocks.specs.ModeInfo.{badBlock, sbSize, isIntra};
-use crate::residual::BLOCK_16X16;
+
+const BLOCK_16X16: u8 = 6;
 
 // Document 01's test 8.
 pub fn bad_block(mi_size: u8, tx_size: u8, skip: u8) -> bool

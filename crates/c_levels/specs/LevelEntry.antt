@@ -8,10 +8,11 @@ use lib.IntN.{ℤ, pos}
 use lib.ListN.{length, getD, take}
 use Rattle.base.specs.Copied.{copied}
 use Rattle.base.specs.Outcome.{Outcome, accepted, refuse, held}
-use Rattle.levels.specs.Levels.{levelTable, zeroLevels}
-use Rattle.levels.specs.declared.header.Delta.{Delta}
-use Rattle.levels.specs.declared.header.LoopFilterParams.{LoopFilterParams}
-use Rattle.levels.specs.declared.header.SegmentationParams.{SegmentationParams}
+use Rattle.level_lookup.specs.LevelLookup.{zeroLevels}
+use Rattle.levels.specs.Levels.{levelTable}
+use Rattle.frame_header.specs.declared.Delta.{Delta}
+use Rattle.frame_header.specs.declared.LoopFilterParams.{LoopFilterParams}
+use Rattle.frame_header.specs.declared.SegmentationParams.{SegmentationParams}
 
 abbrev pub deltaAt : List ℤ → List Bool → ℕ → Delta
 deltaAt deltas present k = record { present = getD present k false; value = getD deltas k (pos 0) }

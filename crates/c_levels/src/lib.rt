@@ -7,9 +7,9 @@ ghost use Rattle.base.specs.Outcome.{Answers};
 ghost use Rattle.c_border.specs.Border.{numbersOf};
 ghost use Rattle.c_levels.specs.LevelEntry.{deltaAt, paramsOf, segmentsOf, levelEntry};
 use c_border::Refusal;
-use levels::header::Delta;
-use levels::header::LoopFilterParams;
-use levels::header::SegmentationParams;
+use frame_header::Delta;
+use frame_header::LoopFilterParams;
+use frame_header::SegmentationParams;
 
 fn delta_at(deltas: &[i8], present: &[bool], k: usize) -> Delta
     requires { ⌜ (k < length (now deltas)) × (k < length (now present)) ⌝ }

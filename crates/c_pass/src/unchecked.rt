@@ -3,10 +3,10 @@ ghost use mathlib.Core.Path.{_≡_};
 ghost use Rattle.base.specs.Outcome.{accepted};
 ghost use Rattle.decided.specs.Decided.{settingOf};
 ghost use Rattle.pass.specs.Pass.{superblockLoopFilter, superblockLoopFilterCells};
-ghost use Rattle.positions.specs.Positions.{passOf};
+ghost use Rattle.pass_edges.specs.PassEdges.{passOf};
 use decided::superblock_of;
 use pass::superblock_loop_filter_unchecked;
-use positions::pass_of;
+use pass_edges::pass_of;
 use window::WindowShape;
 
 // As springspade_pass, without its tests and without an answer. The caller must hand over only what springspade_pass

@@ -8,7 +8,8 @@ use native.Mathlib.Omega.{arith}
 use borrow.Author.Tests.{ltb-false, le-ltb}
 use lib.Dec.{eqb, ltb}
 use Rattle.base.specs.Tests.{neither}
-use Rattle.cells.specs.Cell.{bit, packed, cellOf, badWord, Fields}
+use Rattle.cells.specs.Cell.{bit, packed, cellOf, Fields}
+use Rattle.bad_words.specs.BadWord.{badWord}
 use Rattle.cells.specs.CellLaws.{fields-back, cell-fields, word-back}
 use Rattle.cells.specs.declared.LfCell.{LfCell}
 use Rattle.cell_records.specs.CellRecord.{tooLarge, cellIn, wordOf, recordOf}

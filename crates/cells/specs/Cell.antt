@@ -1,11 +1,8 @@
 -- A packed cell: document 01's word of 32 bits for what the pass reads of a cell.
 -- Assumes nothing.
-use mathlib.Core.Bool.{Bool, cond, not, _&&_, _||_}
-use mathlib.Core.List.{List}
-use Prim.Native.Nat.{ℕ, zero, suc, _+_, _*_, _/_, _%_, _^_, _<_}
+use mathlib.Core.Bool.{Bool, cond}
+use Prim.Native.Nat.{ℕ, _+_, _*_, _/_, _%_, _^_, _<_}
 use lib.Dec.{eqb}
-use lib.ListN.{getD}
-use Rattle.base.specs.Filled.{table}
 use Rattle.cells.specs.declared.LfCell.{LfCell}
 
 abbrev pub bit : Bool → ℕ
@@ -43,14 +40,6 @@ heightLog2 c sub = cond sub (c .height1) (c .height0)
 abbrev pub txOf : LfCell → (chroma : Bool) → ℕ
 txOf c chroma = cond chroma (c .uvtx) (c .tx)
 
--- 11: a zero bit is set, or the level is not 0 while it is absent
-unfoldable pub badWord : ℕ → Bool
-badWord w = not (eqb (w % 2 ^ 12) 0) || not (cellOf w .present) && not (eqb (cellOf w .level) 0)
-
--- 11 at word k of a list
-abbrev pub badCell : (words : List ℕ) (k : ℕ) → Bool
-badCell words k = badWord (getD words k 0)
-
 -- fields that fit their bits
 pub record Fields (c : LfCell) : Type 0 where
   pub width0 : c .width0 < 4
@@ -60,12 +49,3 @@ pub record Fields (c : LfCell) : Type 0 where
   pub tx : c .tx < 4
   pub uvtx : c .uvtx < 4
   pub level : c .level < 64
-
--- the number that n bytes from a place on give, the most significant first
-abbrev pub bytesAt : (bytes : List ℕ) (at n : ℕ) → ℕ
-bytesAt bytes at zero = 0
-bytesAt bytes at (suc n) = bytesAt bytes at n * 256 + getD bytes (at + n) 0
-
--- the words that bytes from a place on give, four bytes each
-unfoldable pub wordsAt : (bytes : List ℕ) (at count : ℕ) → List ℕ
-wordsAt bytes at count = table (λ k. bytesAt bytes (at + 4 * k) 4) count

@@ -12,8 +12,8 @@ use Rattle.decisions.specs.declared.Decision.{Decision}
 use Rattle.geometry.specs.Coordinates.{shr}
 use Rattle.geometry.specs.declared.Pass.{Pass}
 use Rattle.order.specs.Grid.{keep-if, select, select-same, select-const, select-append, strip, strips, grid, strip-mem, strip-split, grid-all}
-use Rattle.positions.specs.Positions.{alongSub, cellStart, cellLen, edgeCount, edgeLen}
-use Rattle.positions.specs.PositionsLaws.{edge-len-cells}
+use Rattle.pass_edges.specs.PassEdges.{alongSub, cellStart, cellLen, edgeCount, edgeLen}
+use Rattle.pass_edges.specs.PassEdgesLaws.{edge-len-cells}
 use Rattle.decided.specs.Decided.{Position, position, Setting, decisionAt}
 use Rattle.decided.specs.Runs.{levelOf, cellRun, longer, joined, runFilters, positionsOf, allPositions}
 use Rattle.decided.specs.JoinLaws.{Joins, Chain, Chain·none, Chain·ends, Chain·goes, joined-all, positions-append, longer-positions}

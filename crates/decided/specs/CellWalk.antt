@@ -9,7 +9,7 @@ use Rattle.geometry.specs.Coordinates.{shr}
 use Rattle.geometry.specs.declared.Pass.{Pass}
 use Rattle.geometry.specs.declared.Superblock.{Superblock}
 use Rattle.order.specs.Grid.{select, grid}
-use Rattle.positions.specs.Positions.{sub, alongSub, edgeCount}
+use Rattle.pass_edges.specs.PassEdges.{sub, alongSub, edgeCount}
 use Rattle.decided.specs.JoinLaws.{Joins, joins-true}
 use Rattle.decided.specs.Runs.{cellRun, joins, longer, joinedFrom, joined, runFilters, runs}
 use Rattle.decided.specs.declared.EdgeRun.{EdgeRun}

@@ -9,7 +9,7 @@ use Rattle.decisions.specs.declared.Decision.{Decision}
 use Rattle.geometry.specs.declared.Pass.{Pass}
 use Rattle.geometry.specs.declared.Superblock.{Superblock}
 use Rattle.order.specs.Grid.{select, grid}
-use Rattle.positions.specs.Positions.{edgeCount, edgeLen}
+use Rattle.pass_edges.specs.PassEdges.{edgeCount, edgeLen}
 
 -- A position of a pass: i along an edge.
 pub record Position : Type 0 where

@@ -10,7 +10,7 @@ use Rattle.decisions.specs.declared.Decision.{Decision}
 use Rattle.geometry.specs.declared.Pass.{Pass}
 use Rattle.geometry.specs.declared.Superblock.{Superblock}
 use Rattle.order.specs.Grid.{select, strip, grid}
-use Rattle.positions.specs.Positions.{cellStart, cellLen, edgeCount}
+use Rattle.pass_edges.specs.PassEdges.{cellStart, cellLen, edgeCount}
 use Rattle.decided.specs.Decided.{Position, position}
 use Rattle.decided.specs.declared.EdgeRun.{EdgeRun}
 

@@ -15,8 +15,9 @@ use Rattle.decisions.specs.declared.Decision.{Decision}
 use Rattle.geometry.specs.declared.Pass.{Pass}
 use Rattle.geometry.specs.declared.Superblock.{Superblock}
 use Rattle.order.specs.Grid.{select, select-same, select-mem, select-passes, select-select, select-length, grid, grid-length}
-use Rattle.positions.specs.Positions.{alongSub, cellStart, edgeCount, edgeLen}
-use Rattle.positions.specs.PositionsLaws.{shr-small, edge-count-small, edge-len-small, cell-first}
+use Rattle.pass_edges.specs.PassEdges.{alongSub, cellStart, edgeCount, edgeLen}
+use Rattle.pass_edges.specs.PassEdgesLaws.{edge-count-small, edge-len-small, cell-first}
+use Rattle.geometry.specs.CoordinatesLaws.{shr-small}
 use Rattle.decided.specs.Decided.{Position, position, Setting, decisionAt, isDecided, decided, filters}
 use Rattle.decided.specs.Runs.{levelOf, cellRun, longer, joined, runFilters, runs, positionsOf, allPositions}
 use Rattle.decided.specs.JoinLaws.{Joins, Stopped, Behind, joined-length, joined-positions, joined-stops}

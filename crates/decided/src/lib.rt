@@ -7,12 +7,13 @@ ghost use Rattle.decided.specs.Runs.{levelOf, cellRun, joins, longer};
 ghost use Rattle.decided.specs.CellWalk.{Fresh};
 ghost use Rattle.decided.specs.RunsLaws.{Small};
 ghost use Rattle.geometry.specs.Frame.{cellsFrom};
-ghost use Rattle.positions.specs.Positions.{Placed, edgeCount};
+ghost use Rattle.positions.specs.Positions.{Placed};
+ghost use Rattle.pass_edges.specs.PassEdges.{edgeCount};
 use decisions::Decision;
 use decisions::decide_unchecked;
 use geometry::Pass;
 use geometry::Superblock;
-use positions::along;
+use pass_edges::along;
 
 // The superblock of a plane, of numbers that are tested: plane 0 counts as not subsampled.
 pub fn superblock_of(

@@ -11,7 +11,8 @@ use Rattle.geometry.specs.declared.Pass.{Pass}
 use Rattle.geometry.specs.declared.Superblock.{Superblock}
 use Rattle.edge_steps.specs.FilterSize.{filterSize}
 use Rattle.edge_steps.specs.SuperblockFilter.{loopCell, isBlockEdge, isTxEdge, is32Edge, onScreen, applyFilter}
-use Rattle.positions.specs.Positions.{sub, edgeLen, lumaX, lumaY}
+use Rattle.positions.specs.Positions.{lumaX, lumaY}
+use Rattle.pass_edges.specs.PassEdges.{sub, edgeLen}
 use Rattle.decisions.specs.declared.Decision.{Decision}
 
 -- the place of the cell at (loopRow, loopCol) among the cells of the superblock row

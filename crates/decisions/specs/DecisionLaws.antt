@@ -19,7 +19,8 @@ use Rattle.geometry.specs.declared.Superblock.{Superblock}
 use Rattle.decisions.specs.Decision.{cellIndex, decisionBy, decision}
 use Rattle.edge_steps.specs.FilterSize.{baseSize, atLast, filterSize}
 use Rattle.edge_steps.specs.SuperblockFilter.{multiple, loopCell, isBlockEdge, lastColumn, isTxEdge, is32Edge, atBorder, onScreen, applyFilter}
-use Rattle.positions.specs.Positions.{sub, alongSub, lumaX, lumaY}
+use Rattle.positions.specs.Positions.{lumaX, lumaY}
+use Rattle.pass_edges.specs.PassEdges.{sub, alongSub}
 use Rattle.decisions.specs.declared.Decision.{Decision}
 
 -- a coordinate is compared with the border of a cell by its own cell alone

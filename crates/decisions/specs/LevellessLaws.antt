@@ -13,8 +13,8 @@ use Rattle.geometry.specs.declared.Pass.{Pass}
 use Rattle.geometry.specs.declared.Superblock.{Superblock}
 use Rattle.decisions.specs.Decision.{decision, withoutLevel, levelless}
 use Rattle.decisions.specs.DecisionLaws.{same-decision}
-use Rattle.positions.specs.PositionsLaws.{edge-len-small, cell-along}
-use Rattle.positions.specs.Positions.{alongSub, edgeLen}
+use Rattle.pass_edges.specs.PassEdgesLaws.{edge-len-small, cell-along}
+use Rattle.pass_edges.specs.PassEdges.{alongSub, edgeLen}
 
 -- the place of the first position of cell k, 8 cells to an edge
 abbrev pub cellPlace : (sub : Bool) (k : ℕ) → ℕ

@@ -10,9 +10,9 @@ mod step;
 mod superblock;
 
 use case_s::print_row;
-use levels::header::Delta;
-use levels::header::LoopFilterParams;
-use levels::header::SegmentationParams;
+use frame_header::Delta;
+use frame_header::LoopFilterParams;
+use frame_header::SegmentationParams;
 use levels::loop_filter::level_table;
 use libc::STDOUT_FILENO;
 use output::print_number;

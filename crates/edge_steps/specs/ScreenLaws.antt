@@ -14,7 +14,8 @@ use Rattle.geometry.specs.declared.Pass.{Pass}
 use Rattle.geometry.specs.declared.Pass.the-variants.{Vertical, Horizontal}
 use Rattle.geometry.specs.declared.Superblock.{Superblock}
 use Rattle.edge_steps.specs.SuperblockFilter.{loopCell, onScreen}
-use Rattle.positions.specs.Positions.{Placed, edgeCount, edgeLen, lumaX, lumaY}
+use Rattle.positions.specs.Positions.{Placed, lumaX, lumaY}
+use Rattle.pass_edges.specs.PassEdges.{edgeCount, edgeLen}
 
 -- luma coordinates in the frame and in the superblock row
 pub record Seen (s : Superblock) (x y : ℕ) : Type 0 where

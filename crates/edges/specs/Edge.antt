@@ -10,7 +10,8 @@ use Rattle.geometry.specs.Frame.{badSubsampling, badFrameSize, badStart}
 use Rattle.geometry.specs.declared.Pass.{Pass}
 use Rattle.geometry.specs.declared.Superblock.{Superblock}
 use Rattle.edge_steps.specs.SuperblockFilter.{loopCell, isBlockEdge, isTxEdge, is32Edge, onScreen, applyFilter}
-use Rattle.positions.specs.Positions.{sub, edgeCount, edgeLen, lumaX, lumaY, passOf}
+use Rattle.positions.specs.Positions.{lumaX, lumaY}
+use Rattle.pass_edges.specs.PassEdges.{sub, edgeCount, edgeLen, passOf}
 use Rattle.edge_steps.specs.FilterSize.{filterSize}
 use Rattle.edges.specs.declared.SuperblockFilterMi.{SuperblockFilterMi}
 use Rattle.edges.specs.declared.SuperblockFilterEdge.{SuperblockFilterEdge}

@@ -21,11 +21,11 @@ use geometry::Superblock;
 use geometry::bad_frame_size;
 use geometry::bad_start;
 use geometry::bad_subsampling;
-use positions::edge_count;
-use positions::edge_len;
+use pass_edges::edge_count;
+use pass_edges::edge_len;
+use pass_edges::pass_of;
 use positions::luma_x_unchecked;
 use positions::luma_y_unchecked;
-use positions::pass_of;
 
 // What an edge reads of its cell: MiSize, the transform that holds in the plane, skip, and reference 0.
 pub struct SuperblockFilterMi {

@@ -8,12 +8,12 @@ use lib.ListN.{length}
 use Rattle.base.specs.Depth.{supported}
 use Rattle.base.specs.First.{refuseFirst}
 use Rattle.base.specs.Outcome.{Outcome, refuse, Returned}
-use Rattle.cells.specs.Cell.{badCell}
+use Rattle.bad_words.specs.BadWord.{badCell}
 use Rattle.decided.specs.Decided.{Setting}
 use Rattle.decisions.specs.Decision.{levelless}
 use Rattle.geometry.specs.Frame.{badSubsampling, badFrameSize, badStart, cellsFrom}
 use Rattle.geometry.specs.declared.Pass.{Pass}
-use Rattle.positions.specs.Positions.{edgeCount}
+use Rattle.pass_edges.specs.PassEdges.{edgeCount}
 use Rattle.window.specs.Window.{badWindow, badSample}
 use Rattle.window.specs.declared.WindowShape.{WindowShape}
 use Rattle.faults.specs.declared.PassAnswer.{PassAnswer}

@@ -12,12 +12,13 @@ use Rattle.base.specs.Depth.{supported}
 use Rattle.base.specs.First.{found}
 use Rattle.base.specs.Outcome.{Outcome, accepted, refused, refuse, Answers}
 use Rattle.base.specs.OutcomeLaws.{passed}
-use Rattle.cells.specs.Cell.{badCell}
+use Rattle.bad_words.specs.BadWord.{badCell}
 use Rattle.decided.specs.Decided.{Setting}
 use Rattle.decisions.specs.Decision.{levelless}
 use Rattle.geometry.specs.Frame.{badSubsampling, badFrameSize, badStart, cellsFrom}
 use Rattle.geometry.specs.declared.Pass.{Pass}
-use Rattle.positions.specs.Positions.{Placed, edgeCount}
+use Rattle.positions.specs.Positions.{Placed}
+use Rattle.pass_edges.specs.PassEdges.{edgeCount}
 use Rattle.positions.specs.PositionsLaws.{placed}
 use Rattle.window.specs.Window.{badWindow, badSample}
 use Rattle.window.specs.WindowLaws.{Lent, lent}

@@ -1,3 +1,4 @@
 pub mod Coordinates
+pub mod CoordinatesLaws
 pub mod Frame
 pub mod FrameLaws

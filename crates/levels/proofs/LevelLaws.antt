@@ -12,9 +12,9 @@ use lib.Signed.{ltZ, nonNeg}
 use Rattle.base.specs.Filled.{filled, filled-join, filled-same}
 use Rattle.base.specs.Notation.{Clip3}
 use Rattle.levels.specs.Levels.{clippedLevel, lvlSeg, segmentLvl, placeLvl}
-use Rattle.levels.specs.declared.header.LoopFilterParams.{LoopFilterParams}
-use Rattle.levels.specs.declared.header.SegmentationParams.{SegmentationParams}
-use Rattle.levels.specs.declared.loop_filter.Deltas.{Deltas}
+use Rattle.frame_header.specs.declared.LoopFilterParams.{LoopFilterParams}
+use Rattle.frame_header.specs.declared.SegmentationParams.{SegmentationParams}
+use Rattle.frame_header.specs.declared.Deltas.{Deltas}
 
 pub level-low : (v : ℤ) → ltZ v (pos 0) ≡ true → 0 ≡ clippedLevel v
 unfolding clippedLevel Clip3
@@ -27,13 +27,6 @@ level-high v low high = rw (low, high)
 pub level-kept : (v : ℤ) → ltZ v (pos 0) ≡ false → ltZ (pos 63) v ≡ false → natAbs v ≡ clippedLevel v
 unfolding clippedLevel Clip3
 level-kept v low high = rw (low, high)
-
-pub not-negative : (v : ℤ) → ltZ v (pos 0) ≡ false → T (nonNeg v)
-not-negative (pos n) e = tt
-not-negative (negsuc n) e = let z : _≡_ {A = ℕ} 0 1 = cc in absurd (contra z)
-  where
-    contra : _≡_ {A = ℕ} 0 1 → ⊥
-    contra z = omega arith
 
 -- an entry of a segment is the table's entry at its place
 same : (lf : LoopFilterParams) (seg : SegmentationParams) (deltas : Deltas) (segment k : ℕ) → k < 8 → segmentLvl lf deltas (lvlSeg lf seg segment) (segment * 8 + k) ≡ placeLvl lf seg deltas (segment * 8 + k)

@@ -10,14 +10,13 @@ use lib.Signed.{ltZ}
 use Rattle.base.specs.Filled.{filled}
 use Rattle.base.specs.Notation.{Clip3, shlZ}
 use Rattle.base.specs.Outcome.{Outcome, accepted, refuse, Returned}
-use Rattle.levels.specs.Params.{segFeatureActive, featureData, resolvedFrom, defaultDeltas}
-use Rattle.levels.specs.declared.header.LoopFilterParams.{LoopFilterParams}
-use Rattle.levels.specs.declared.header.SegmentationParams.{SegmentationParams}
-use Rattle.levels.specs.declared.loop_filter.Deltas.{Deltas}
+use Rattle.frame_header.specs.Params.{segFeatureActive, featureData, resolvedFrom, defaultDeltas}
+use Rattle.frame_header.specs.declared.LoopFilterParams.{LoopFilterParams}
+use Rattle.frame_header.specs.declared.SegmentationParams.{SegmentationParams}
+use Rattle.frame_header.specs.declared.Deltas.{Deltas}
+use Rattle.level_lookup.specs.LevelLookup.{zeroLevels}
 use Rattle.levels.specs.declared.loop_filter.LevelAnswer.{LevelAnswer}
 use Rattle.levels.specs.declared.loop_filter.LevelAnswer.the-variants.{Done, Level}
-use Rattle.levels.specs.declared.loop_filter.Lookup.{Lookup}
-use Rattle.levels.specs.declared.loop_filter.Lookup.the-variants.{Found, Nothing}
 
 -- ---- the standard's process
 
@@ -63,19 +62,12 @@ entryLvl lf deltas lvl ref mode =
     (deltaLvl lf deltas lvl ref mode)
     (cond (lf .«delta_update») 0 lvl)
 
--- where the flat table holds an entry
-abbrev pub levelAt : ℕ → ℕ → ℕ → ℕ
-levelAt segment ref mode = segment * 8 + ref * 2 + mode
-
 -- the entry at place k of the flat table, in a segment whose level is lvl
 unfoldable pub segmentLvl : LoopFilterParams → Deltas → ℕ → ℕ → ℕ
 segmentLvl lf deltas lvl k = entryLvl lf deltas lvl (k % 8 / 2) (k % 2)
 
 unfoldable pub placeLvl : LoopFilterParams → SegmentationParams → Deltas → ℕ → ℕ
 placeLvl lf seg deltas k = segmentLvl lf deltas (lvlSeg lf seg (k / 8)) k
-
-abbrev pub zeroLevels : List ℕ
-zeroLevels = replicate 64 0
 
 -- LvlLookup, or refusal 6 for a frame level above 63
 unfoldable pub frameInit : LoopFilterParams → SegmentationParams → Deltas → Outcome (List ℕ)
@@ -89,19 +81,3 @@ levelTable lf seg = frameInit lf seg (resolvedFrom defaultDeltas lf)
 abbrev pub returnedOf : LevelAnswer → Returned
 returnedOf Done = record { number = 0; place = 0 }
 returnedOf Level = record { number = 6; place = 0 }
-
--- LvlLookup[ segment ][ ref ][ mode ], where there is such an entry
-unfoldable pub lookupOf : List ℕ → ℕ → ℤ → ℕ → Lookup
-lookupOf levels segment ref mode =
-    cond (ltb segment 8 && ltb mode 2 && not (ltZ ref (pos 0)) && ltb (natAbs ref) 4)
-    (Found (getD levels (levelAt segment (natAbs ref) mode) 0))
-    Nothing
-
--- whether there is an entry, and its level, or 0
-abbrev pub isFound : Lookup → Bool
-isFound (Found lvl) = true
-isFound Nothing = false
-
-abbrev pub foundLevel : Lookup → ℕ
-foundLevel (Found lvl) = lvl
-foundLevel Nothing = 0

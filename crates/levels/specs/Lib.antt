@@ -1,3 +1,2 @@
-pub mod Params
 pub mod Levels
 pub mod LevelTableLaws

@@ -1,4 +1,2 @@
-// The level table of a frame (8.8.1), a file for each file of the Rust.
-pub mod dequant;
-pub mod header;
+// The level table of a frame (8.8.1).
 pub mod loop_filter;

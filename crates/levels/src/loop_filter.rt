@@ -7,98 +7,17 @@ ghost use lib.Signed.{mag};
 ghost use Rattle.base.specs.Filled.{filled};
 ghost use Rattle.base.specs.Notation.{shlZ};
 ghost use Rattle.base.specs.Outcome.{Answers};
-ghost use Rattle.levels.specs.Params.{resolvedDelta, resolvedFrom, defaultDeltas};
-ghost use Rattle.levels.specs.Levels.{clippedLevel, lvlSeg, deltaLvl, entryLvl, segmentLvl, placeLvl, zeroLevels, frameInit, levelTable, returnedOf, lookupOf};
-use crate::dequant::seg_feature_active;
-use crate::header::Delta;
-use crate::header::LoopFilterParams;
-use crate::header::SegmentationParams;
+ghost use Rattle.level_lookup.specs.LevelLookup.{zeroLevels};
+ghost use Rattle.levels.specs.Levels.{clippedLevel, lvlSeg, deltaLvl, entryLvl, segmentLvl, placeLvl, frameInit, levelTable, returnedOf};
+use frame_header::Deltas;
+use frame_header::LoopFilterParams;
+use frame_header::SegmentationParams;
+use frame_header::resolve_lf_deltas;
+use frame_header::seg_feature_active;
+use level_lookup::LvlLookup;
 
 // The segmentation feature that carries a level.
 pub const SEG_LVL_ALT_L: usize = 1;
-
-// LvlLookup[ segment ][ ref ][ mode ], flat: at segment times 8 plus reference times 2 plus mode type.
-pub struct LvlLookup {
-    pub levels: [u8; 64],
-}
-
-// What stands in a table: a level, or nothing where there is no such entry.
-pub enum Lookup {
-    Found(u8),
-    Nothing,
-}
-
-impl LvlLookup {
-    pub const MAX_SEGMENTS: usize = 8;
-
-    pub const MAX_REF_FRAMES: usize = 4;
-
-    pub const MAX_MODE_LF_DELTAS: usize = 2;
-
-    pub const MAX_LOOP_FILTER: u8 = 63;
-
-    pub fn zeros() -> Self
-        ensures { λ r. ⌜ r .levels ≡ zeroLevels ⌝ }
-    {
-        LvlLookup { levels: [0u8; 64] }
-    }
-
-    pub fn get(self, segment_id: usize, ref_frame: i32, mode: usize) -> Lookup
-        ensures { λ r. ⌜ r ≡ lookupOf (self .levels) «segment_id» «ref_frame» mode ⌝ }
-    {
-        let levels = self.levels;
-        find_level(&levels, segment_id, ref_frame, mode)
-    }
-}
-
-// The entry of any segment, reference and mode type, of a table that is lent.
-pub fn find_level(levels: &[u8; 64], segment_id: usize, ref_frame: i32, mode: usize) -> Lookup
-    ensures { λ r. ⌜ r ≡ lookupOf (now (levels .entry)) «segment_id» «ref_frame» mode ⌝ }
-{
-    if LvlLookup::MAX_SEGMENTS <= segment_id {
-        return Lookup::Nothing;
-    }
-    if LvlLookup::MAX_MODE_LF_DELTAS <= mode {
-        return Lookup::Nothing;
-    }
-    if ref_frame < 0 {
-        return Lookup::Nothing;
-    }
-    let r = ref_frame as usize;
-    if LvlLookup::MAX_REF_FRAMES <= r {
-        return Lookup::Nothing;
-    }
-    let at = segment_id * 8 + r * 2 + mode;
-    Lookup::Found(levels[at])
-}
-
-// The deltas that hold in a frame.
-pub struct Deltas {
-    pub refs: [i8; 4],
-    pub modes: [i8; 2],
-}
-
-fn resolved(before: i8, delta: Delta) -> i8
-    ensures { λ r. ⌜ r ≡ resolvedDelta before delta ⌝ }
-{
-    if delta.present { delta.value } else { before }
-}
-
-// The header's deltas, with the defaults of setup_past_independence( ) for those that are absent.
-pub fn resolve_lf_deltas(lf: LoopFilterParams) -> Deltas
-    ensures { λ r. ⌜ r ≡ resolvedFrom defaultDeltas lf ⌝ }
-{
-    let intra = resolved(1, lf.ref_deltas[0]);
-    let last = resolved(0, lf.ref_deltas[1]);
-    let golden = resolved(-1, lf.ref_deltas[2]);
-    let altref = resolved(-1, lf.ref_deltas[3]);
-    let zero_mv = resolved(0, lf.mode_deltas[0]);
-    let other_mv = resolved(0, lf.mode_deltas[1]);
-    Deltas {
-        refs: [intra, last, golden, altref],
-        modes: [zero_mv, other_mv],
-    }
-}
 
 // Clip3( 0, MAX_LOOP_FILTER, v ).
 fn clip_level(v: i32) -> u8

@@ -11,11 +11,13 @@ use Rattle.base.specs.Filled.{filled}
 use Rattle.base.specs.First.{found, firstFrom}
 use Rattle.base.specs.Notation.{Clip3}
 use Rattle.base.specs.Outcome.{Outcome, refused, returned}
-use Rattle.cells.specs.Cell.{cellOf, badWord}
+use Rattle.cells.specs.Cell.{cellOf}
+use Rattle.bad_words.specs.BadWord.{badWord}
 use Rattle.decisions.specs.Decision.{cellIndex, decisionBy, decision, levelless}
 use Rattle.edge_steps.specs.FilterSize.{filterSize}
 use Rattle.edge_steps.specs.SuperblockFilter.{loopCell, isBlockEdge, isTxEdge, is32Edge, onScreen, applyFilter}
-use Rattle.positions.specs.Positions.{edgeCount, edgeLen, lumaX, lumaY, planeX, planeY}
+use Rattle.positions.specs.Positions.{lumaX, lumaY, planeX, planeY}
+use Rattle.pass_edges.specs.PassEdges.{edgeCount, edgeLen}
 use Rattle.geometry.specs.Frame.{badSubsampling, badFrameSize, badStart}
 use Rattle.geometry.specs.declared.Pass.the-variants.{Vertical}
 use Rattle.line.specs.Masks.{hevMask, filterMask, flatAt, flatMask}

@@ -9,7 +9,8 @@ use Prim.Native.Nat.{ℕ, _+_, _*_, _<_}
 use native.Mathlib.Omega.{arith}
 use lib.ListN.{length, getD}
 use Rattle.base.specs.Outcome.{accepted}
-use Rattle.positions.specs.Positions.{passOf, edgeCount, edgeLen, lumaX, lumaY, planeX, planeY}
+use Rattle.positions.specs.Positions.{lumaX, lumaY, planeX, planeY}
+use Rattle.pass_edges.specs.PassEdges.{passOf, edgeCount, edgeLen}
 use Rattle.geometry.specs.Coordinates.{shl, shr}
 use Rattle.geometry.specs.declared.Pass.{Pass}
 use Rattle.geometry.specs.declared.Pass.the-variants.{Vertical, Horizontal}

@@ -5,7 +5,8 @@ use Prim.Native.Nat.{ℕ}
 use lib.ListN.{length}
 use Rattle.base.specs.Outcome.{Outcome, accepted}
 use Rattle.faults.specs.Faults.{numbersRefused, listsRefused}
-use Rattle.positions.specs.Positions.{passOf, planeX, planeY}
+use Rattle.positions.specs.Positions.{planeX, planeY}
+use Rattle.pass_edges.specs.PassEdges.{passOf}
 use Rattle.decisions.specs.declared.Decision.{Decision}
 use Rattle.geometry.specs.declared.Pass.{Pass}
 use Rattle.line.specs.SampleFiltering.{sampleFiltering}

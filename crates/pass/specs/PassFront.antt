@@ -14,7 +14,8 @@ use Rattle.base.specs.Depth.{supported}
 use Rattle.base.specs.First.{found, first, refuseFirst}
 use Rattle.base.specs.FirstLaws.{found-same, first-same}
 use Rattle.base.specs.Outcome.{Outcome, accepted, refuse}
-use Rattle.cells.specs.Cell.{cellOf, badWord, badCell}
+use Rattle.cells.specs.Cell.{cellOf}
+use Rattle.bad_words.specs.BadWord.{badWord, badCell}
 use Rattle.decided.specs.Decided.{Position, position, Setting, setting, settingOf, superblockOf, decisionAt, isDecided, decided, filters}
 use Rattle.decisions.specs.Decision.{cellIndex, decisionBy, decision, withoutLevel, levelless}
 use Rattle.decisions.specs.declared.Decision.{Decision}
@@ -27,7 +28,8 @@ use Rattle.geometry.specs.declared.Pass.{Pass}
 use Rattle.geometry.specs.declared.Superblock.{Superblock}
 use Rattle.order.specs.Grid.{grid, grid-mem, select-mem, select-same}
 use Rattle.order.specs.Order.{run, run-same}
-use Rattle.positions.specs.Positions.{Placed, edgeCount, edgeLen, lumaX, lumaY, passOf, planeX, planeY}
+use Rattle.positions.specs.Positions.{Placed, lumaX, lumaY, planeX, planeY}
+use Rattle.pass_edges.specs.PassEdges.{edgeCount, edgeLen, passOf}
 use Rattle.positions.specs.PositionsLaws.{placed}
 use Rattle.window.specs.Stencil.{applied}
 use Rattle.window.specs.Window.{badWindow, badSample, stencil}

@@ -11,14 +11,14 @@ use Rattle.base.specs.Depth.{supported}
 use Rattle.base.specs.First.{found, first-is}
 use Rattle.base.specs.Outcome.{accepted, returned}
 use Rattle.base.specs.OutcomeLaws.{result-is, refuse-place}
-use Rattle.cells.specs.Cell.{badCell}
+use Rattle.bad_words.specs.BadWord.{badCell}
 use Rattle.decided.specs.Decided.{Setting, settingOf}
 use Rattle.decisions.specs.Decision.{levelless}
 use Rattle.faults.specs.FaultsLaws.{Numbers, numbers-passed, Lists, lists-passed}
 use Rattle.geometry.specs.Frame.{badSubsampling, badFrameSize, badStart, cellsFrom}
 use Rattle.geometry.specs.FrameLaws.{sized, cells-small}
-use Rattle.positions.specs.Positions.{passOf, edgeCount}
-use Rattle.positions.specs.PositionsLaws.{edge-count-small}
+use Rattle.pass_edges.specs.PassEdges.{passOf, edgeCount}
+use Rattle.pass_edges.specs.PassEdgesLaws.{edge-count-small}
 use Rattle.window.specs.SampleLaws.{samples-small}
 use Rattle.window.specs.Window.{badWindow, badSample}
 use Rattle.window.specs.WindowLaws.{lent}

@@ -6,7 +6,7 @@ use Prim.Native.Nat.{ℕ, _^_}
 use lib.ListN.{length}
 use Rattle.base.specs.Outcome.{accepted}
 use Rattle.decided.specs.Decided.{decided, settingOf}
-use Rattle.positions.specs.Positions.{passOf}
+use Rattle.pass_edges.specs.PassEdges.{passOf}
 use Rattle.window.specs.RangeLaws.{InRange, tested-range}
 use Rattle.window.specs.declared.WindowShape.{WindowShape}
 use Rattle.pass.specs.Pass.{superblockLoopFilter, superblockLoopFilterCells}

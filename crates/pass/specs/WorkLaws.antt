@@ -27,8 +27,10 @@ use Rattle.line.specs.SampleFilteringLaws.{filters-within}
 use Rattle.order.specs.Grid.{keep-if, select, select-append, strip, grid, mem-strip}
 use Rattle.order.specs.Order.{run}
 use Rattle.order.specs.Walk.{run-append, run-strip-next, run-idle}
-use Rattle.positions.specs.Positions.{Placed, alongSub, edgeCount, edgeLen, planeX, planeY}
-use Rattle.positions.specs.PositionsLaws.{plane-vertical, plane-horizontal, cell-along}
+use Rattle.positions.specs.Positions.{Placed, planeX, planeY}
+use Rattle.pass_edges.specs.PassEdges.{alongSub, edgeCount, edgeLen}
+use Rattle.positions.specs.PositionsLaws.{plane-vertical, plane-horizontal}
+use Rattle.pass_edges.specs.PassEdgesLaws.{cell-along}
 use Rattle.strength.specs.Strength.{strengthOf}
 use Rattle.strength.specs.declared.FilterStrength.{FilterStrength}
 use Rattle.window.specs.RangeLaws.{InRange, Keeps, position-range}

@@ -23,8 +23,8 @@ use faults::list_faults_unchecked;
 use faults::number_faults;
 use geometry::Pass;
 use geometry::Superblock;
-use positions::edge_count;
-use positions::pass_of;
+use pass_edges::edge_count;
+use pass_edges::pass_of;
 use strength::limits_table;
 use window::WindowShape;
 

@@ -1,8 +1,8 @@
-// The positions of a pass over a superblock: how many there are, and where they lie.
+// Where the positions of a pass over a superblock lie.
 ghost use mathlib.Core.Path.{_≡_};
 ghost use Prim.Native.Nat.{_*_, _≤_, _<_};
-ghost use Rattle.geometry.specs.Coordinates.{shl, shr};
-ghost use Rattle.positions.specs.Positions.{Placed, alongSub, edgeCount, edgeLen, lumaX, lumaY, planeX, planeY, passOf};
+ghost use Rattle.geometry.specs.Coordinates.{shl};
+ghost use Rattle.positions.specs.Positions.{Placed, lumaX, lumaY, planeX, planeY};
 use geometry::Luma;
 use geometry::Pass;
 use geometry::Plane;
@@ -13,12 +13,6 @@ fn doubled(n: usize, sub: bool) -> usize
     ensures { λ r. ⌜ (r ≡ shl n sub) × (r ≤ 2 * n) ⌝ }
 {
     if sub { 2 * n } else { n }
-}
-
-fn halved(n: usize, sub: bool) -> usize
-    ensures { λ r. ⌜ (r ≡ shr n sub) × (r ≤ n) ⌝ }
-{
-    if sub { n / 2 } else { n }
 }
 
 // The position in luma samples. It asks for a superblock whose frame, row and column are tested.
@@ -55,39 +49,4 @@ pub fn plane_y_unchecked(s: Superblock, pass: Pass, edge: usize, i: usize) -> Pl
     ensures { λ r. ⌜ (r .0 ≡ planeY s pass edge i) × (r .0 < 65792) ⌝ }
 {
     luma_y_unchecked(s, pass, edge, i).in_plane(s.suby)
-}
-
-pub fn edge_count(s: Superblock, pass: Pass) -> usize
-    ensures { λ r. ⌜ (r ≡ edgeCount s pass) × (r ≤ 16) ⌝ }
-{
-    match pass {
-        Pass::Vertical => halved(16, s.subx),
-        Pass::Horizontal => halved(16, s.suby),
-    }
-}
-
-// n luma samples along an edge, in the samples of the plane.
-pub fn along(s: Superblock, pass: Pass, n: usize) -> usize
-    ensures { λ r. ⌜ (r ≡ shr n (alongSub s pass)) × (r ≤ n) ⌝ }
-{
-    match pass {
-        Pass::Vertical => halved(n, s.suby),
-        Pass::Horizontal => halved(n, s.subx),
-    }
-}
-
-pub fn edge_len(s: Superblock, pass: Pass) -> usize
-    ensures { λ r. ⌜ (r ≡ edgeLen s pass) × (r ≤ 64) ⌝ }
-{
-    along(s, pass, 64)
-}
-
-pub fn pass_of(pass: u8) -> Pass
-    ensures { λ r. ⌜ r ≡ passOf pass ⌝ }
-{
-    if pass == 0 {
-        Pass::Vertical
-    } else {
-        Pass::Horizontal
-    }
 }

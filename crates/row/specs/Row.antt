@@ -10,10 +10,11 @@ use Rattle.base.specs.Depth.{supported}
 use Rattle.base.specs.Filled.{filled}
 use Rattle.base.specs.First.{refuseFirst}
 use Rattle.base.specs.Outcome.{Outcome, accepted, refuse, Returned}
-use Rattle.blocks.specs.BlockSizes.{miWidthLog2, miHeightLog2, uvTxSize}
+use Rattle.blocks.specs.BlockSizes.{miWidthLog2, miHeightLog2}
+use Rattle.chroma_transforms.specs.ChromaTransforms.{uvTxSize}
 use Rattle.blocks.specs.ModeInfo.{badBlock, sbSize, isIntra}
 use Rattle.geometry.specs.Frame.{badSubsampling, badFrameSize, badStart, cellsFrom}
-use Rattle.levels.specs.Levels.{lookupOf, isFound, foundLevel}
+use Rattle.level_lookup.specs.LevelLookup.{lookupOf, isFound, foundLevel}
 use Rattle.strength.specs.Strength.{modeType}
 use Rattle.cells.specs.Cell.{packed}
 use Rattle.cells.specs.declared.LfCell.{LfCell}

@@ -20,7 +20,7 @@ use Rattle.blocks.specs.ModeInfo.{sbSize}
 use Rattle.blocks.specs.ModeInfoLaws.{block, sb-size-small}
 use Rattle.geometry.specs.Frame.{badSubsampling, badFrameSize, badStart, cellsFrom}
 use Rattle.geometry.specs.FrameLaws.{sized, cells-small}
-use Rattle.levels.specs.LevelTableLaws.{lookup-small}
+use Rattle.level_lookup.specs.LevelLookupLaws.{lookup-small}
 use Rattle.strength.specs.Strength.{modeType}
 use Rattle.cells.specs.Cell.{Fields}
 use Rattle.row.specs.Row.{cellFrom, ModeInfo, wordAt, badLevel, tooShort, badAt, row}

@@ -15,13 +15,14 @@ use Rattle.base.specs.Filled.{filled, filled-at, filled-other}
 use Rattle.base.specs.First.{found, found-false}
 use Rattle.base.specs.Outcome.{accepted}
 use Rattle.base.specs.OutcomeLaws.{passed, result-is}
-use Rattle.blocks.specs.BlockSizes.{miWidthLog2, miHeightLog2, num8x8Wide, num8x8High, uvTxSize}
-use Rattle.blocks.specs.BlockSizesLaws.{uv-tx-small}
+use Rattle.blocks.specs.BlockSizes.{miWidthLog2, miHeightLog2, num8x8Wide, num8x8High}
+use Rattle.chroma_transforms.specs.ChromaTransforms.{uvTxSize}
+use Rattle.chroma_transforms.specs.ChromaTransformsLaws.{uv-tx-small}
 use Rattle.blocks.specs.ModeInfo.{sbSize, isIntra}
 use Rattle.blocks.specs.ModeInfoLaws.{block}
 use Rattle.geometry.specs.Frame.{badSubsampling, badFrameSize, badStart, cellsFrom}
-use Rattle.levels.specs.Levels.{levelAt}
-use Rattle.levels.specs.LevelTableLaws.{lookup-entry, lookup-segment, lookup-large, lookup-negative}
+use Rattle.level_lookup.specs.LevelLookup.{levelAt}
+use Rattle.level_lookup.specs.LevelLookupLaws.{lookup-entry, lookup-segment, lookup-large, lookup-negative}
 use Rattle.strength.specs.Strength.{modeType}
 use Rattle.strength.specs.StrengthLaws.{mode-type-small}
 use Rattle.cells.specs.Cell.{cellOf, widthLog2, heightLog2, txOf}

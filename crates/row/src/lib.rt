@@ -12,7 +12,7 @@ mod word;
 use base::is_supported;
 use blocks::partition::mi_height_log2_table;
 use blocks::partition::mi_width_log2_table;
-use blocks::residual::uv_limit_table;
+use chroma_transforms::uv_limit_table;
 use faults::any_bad_block;
 use faults::any_bad_level;
 use faults::first_bad_block;
@@ -36,8 +36,8 @@ pub enum RowAnswer {
     Block(usize),
 }
 
-// The work without the tests, for a caller that has made them. The lists start at the row's first cell.
-pub fn row_cells_unchecked(
+// The work, once the tests are made. The lists start at the row's first cell.
+fn row_cells_unchecked(
     mi_sizes: &[u8],
     tx_sizes: &[u8],
     skips: &[u8],

@@ -5,15 +5,15 @@ ghost use Prim.Native.Nat.{_≤_, min};
 ghost use lib.ListN.{getD};
 ghost use Rattle.base.specs.First.{found};
 ghost use Rattle.blocks.specs.BlockSizes.{bySize, miWidthLog2, miHeightLog2};
-ghost use Rattle.levels.specs.Levels.{isFound, foundLevel};
+ghost use Rattle.level_lookup.specs.LevelLookup.{isFound, foundLevel};
 ghost use Rattle.cells.specs.Cell.{packed};
 ghost use Rattle.row.specs.Row.{cellFrom, badLevel};
 use blocks::mode_info::is_intra;
 use blocks::mode_info::sb_size;
 use cells::LfCell;
 use cells::pack_unchecked;
-use levels::loop_filter::Lookup;
-use levels::loop_filter::find_level;
+use level_lookup::Lookup;
+use level_lookup::find_level;
 use strength::mode_to_mode_type;
 
 fn is_found(lvl: Lookup) -> bool

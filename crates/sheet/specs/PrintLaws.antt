@@ -15,7 +15,7 @@ use Rattle.decided.specs.declared.EdgeRun.{EdgeRun}
 use Rattle.geometry.specs.declared.Pass.{Pass}
 use Rattle.geometry.specs.declared.Superblock.{Superblock}
 use Rattle.order.specs.Grid.{keep-if, select, select-append, strip, grid, strip-split, strips-split, grid-length, strip-length}
-use Rattle.positions.specs.Positions.{edgeCount}
+use Rattle.pass_edges.specs.PassEdges.{edgeCount}
 use Rattle.text.specs.Text.{Put}
 use Rattle.text.specs.TextLaws.{written-none, written-length, put-then}
 use Rattle.sheet_lines.specs.SheetLines.{runLine, runLines}

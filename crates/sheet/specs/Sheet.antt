@@ -6,16 +6,18 @@ use lib.Dec.{ltb}
 use lib.ListN.{length}
 use Rattle.base.specs.First.{refuseFirst}
 use Rattle.base.specs.Outcome.{Outcome, accepted, refused, refuse}
-use Rattle.cells.specs.Cell.{badCell, wordsAt}
+use Rattle.word_bytes.specs.WordBytes.{wordsAt}
+use Rattle.bad_words.specs.BadWord.{badCell}
 use Rattle.decided.specs.Decided.{Setting, settingOf}
 use Rattle.decided.specs.Runs.{runs}
 use Rattle.decided.specs.declared.EdgeRun.{EdgeRun}
 use Rattle.decisions.specs.Decision.{levelless}
 use Rattle.geometry.specs.Frame.{cellsFrom}
 use Rattle.faults.specs.Faults.{numbersRefused}
-use Rattle.positions.specs.Positions.{passOf, edgeCount}
-use Rattle.sheet_lines.specs.SheetLines.{headerOf, badHeader, firstLine, runLines, refusalLine}
-use Rattle.sheet_lines.specs.declared.header.SheetHeader.{SheetHeader}
+use Rattle.pass_edges.specs.PassEdges.{passOf, edgeCount}
+use Rattle.sheet_lines.specs.SheetLines.{firstLine, runLines, refusalLine}
+use Rattle.sheet_header.specs.SheetHeader.{headerOf, badHeader}
+use Rattle.sheet_header.specs.declared.SheetHeader.{SheetHeader}
 
 -- ---- the sheet
 

@@ -12,18 +12,19 @@ use lib.ListN.{length, length-append}
 use Rattle.base.specs.Depth.{supported}
 use Rattle.base.specs.First.{found, first-is}
 use Rattle.base.specs.Outcome.{Outcome, accepted, refused, refuse}
-use Rattle.cells.specs.Cell.{badCell}
+use Rattle.bad_words.specs.BadWord.{badCell}
 use Rattle.decided.specs.RunsLaws.{Small, runs-small, runs-count}
 use Rattle.decided.specs.declared.EdgeRun.{EdgeRun}
 use Rattle.decisions.specs.Decision.{levelless}
 use Rattle.geometry.specs.Frame.{badSubsampling, badFrameSize, badStart, rowsFrom, cellsFrom}
 use Rattle.faults.specs.Faults.{numbersRefused}
-use Rattle.positions.specs.Positions.{passOf, edgeCount}
-use Rattle.positions.specs.PositionsLaws.{edge-count-small}
-use Rattle.sheet_lines.specs.HeaderLaws.{header-small, header-narrow}
+use Rattle.pass_edges.specs.PassEdges.{passOf, edgeCount}
+use Rattle.pass_edges.specs.PassEdgesLaws.{edge-count-small}
+use Rattle.sheet_header.specs.SheetHeaderLaws.{header-small, header-narrow}
 use Rattle.sheet_lines.specs.LineLaws.{first-length, lines-length, refusal-length}
-use Rattle.sheet_lines.specs.SheetLines.{headerOf, badHeader, firstLine, runLines, refusalLine}
-use Rattle.sheet_lines.specs.declared.header.SheetHeader.{SheetHeader}
+use Rattle.sheet_lines.specs.SheetLines.{firstLine, runLines, refusalLine}
+use Rattle.sheet_header.specs.SheetHeader.{headerOf, badHeader}
+use Rattle.sheet_header.specs.declared.SheetHeader.{SheetHeader}
 use Rattle.sheet.specs.Sheet.{sheetSetting, cellsRuns, cellsOf, sheetRuns, printed, runSheet}
 use Rattle.sheet.specs.SheetAnswers.{answerOf}
 use Rattle.sheet.specs.declared.SheetAnswer.the-variants.{Written}

@@ -6,16 +6,15 @@ ghost use lib.ListN.{length};
 ghost use Rattle.geometry.specs.Frame.{cellsFrom};
 ghost use Rattle.positions.specs.Positions.{Placed};
 ghost use Rattle.text.specs.Text.{Put};
-ghost use Rattle.sheet_lines.specs.HeaderLaws.{Header};
-ghost use Rattle.sheet_lines.specs.SheetLines.{headerOf};
+ghost use Rattle.sheet_header.specs.SheetHeaderLaws.{Header};
+ghost use Rattle.sheet_header.specs.SheetHeader.{headerOf};
 ghost use Rattle.sheet.specs.Sheet.{sheetSetting, cellsOf, cellsRuns, printed, runSheet};
 ghost use Rattle.sheet.specs.SheetAnswers.{answerOf, textOf};
 
 mod runs;
 
-use cells::any_bad_word_unchecked;
-use cells::bytes::words_at_unchecked;
-use cells::first_bad_word_unchecked;
+use bad_words::any_bad_word_unchecked;
+use bad_words::first_bad_word_unchecked;
 use decided::superblock_of;
 use decisions::first_levelless_unchecked;
 use faults::PassAnswer;
@@ -23,14 +22,15 @@ use faults::number_faults;
 use faults::number_of;
 use faults::place_of;
 use geometry::cell_count_unchecked;
-use positions::edge_count;
-use positions::pass_of;
+use pass_edges::edge_count;
+use pass_edges::pass_of;
 use runs::print_runs;
-use sheet_lines::header::SheetHeader;
-use sheet_lines::header::bad_header;
-use sheet_lines::header::header_of_unchecked;
-use sheet_lines::print::print_first_unchecked;
-use sheet_lines::print::print_refusal_unchecked;
+use sheet_header::SheetHeader;
+use sheet_header::bad_header;
+use sheet_header::header_of_unchecked;
+use sheet_lines::print_first_unchecked;
+use sheet_lines::print_refusal_unchecked;
+use word_bytes::words_at_unchecked;
 
 // How many bytes of text were written, or that the buffer has too little room.
 pub enum SheetAnswer {

@@ -7,7 +7,8 @@ ghost use Rattle.decided.specs.Runs.{cellRun, runs};
 ghost use Rattle.decided.specs.RunsLaws.{Small};
 ghost use Rattle.geometry.specs.Frame.{cellsFrom};
 ghost use Rattle.order.specs.Grid.{strip};
-ghost use Rattle.positions.specs.Positions.{Placed, edgeCount};
+ghost use Rattle.positions.specs.Positions.{Placed};
+ghost use Rattle.pass_edges.specs.PassEdges.{edgeCount};
 ghost use Rattle.text.specs.Text.{Put};
 ghost use Rattle.sheet_lines.specs.SheetLines.{runLines};
 ghost use Rattle.sheet.specs.PrintLaws.{pendingText, Fed};
@@ -18,8 +19,8 @@ use decided::longer_unchecked;
 use decided::no_run;
 use geometry::Pass;
 use geometry::Superblock;
-use positions::edge_count;
-use sheet_lines::print::print_run_unchecked;
+use pass_edges::edge_count;
+use sheet_lines::print_run_unchecked;
 
 // Where the text ends, and the run that may still grow.
 pub(crate) struct Printed {

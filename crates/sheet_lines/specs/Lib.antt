@@ -1,3 +1,2 @@
 pub mod SheetLines
-pub mod HeaderLaws
 pub mod LineLaws

@@ -9,9 +9,9 @@ use Rattle.decided.specs.RunsLaws.{Small}
 use Rattle.decided.specs.declared.EdgeRun.{EdgeRun}
 use Rattle.text.specs.Text.{decimal}
 use Rattle.text.specs.TextLaws.{decimal-length}
-use Rattle.sheet_lines.specs.HeaderLaws.{Header}
+use Rattle.sheet_header.specs.SheetHeaderLaws.{Header}
 use Rattle.sheet_lines.specs.SheetLines.{firstLine, runLine, runLines, refusalLine}
-use Rattle.sheet_lines.specs.declared.header.SheetHeader.{SheetHeader}
+use Rattle.sheet_header.specs.declared.SheetHeader.{SheetHeader}
 
 one-digit : (n : ℕ) → n < 10 → length (decimal n) ≤ 1
 one-digit n h = decimal-length 0 n h

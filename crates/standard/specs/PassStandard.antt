@@ -12,21 +12,22 @@ use lib.ListN.{getD}
 use borrow.Author.Tests.{not-false}
 use Rattle.base.specs.First.{found, found-false}
 use Rattle.base.specs.Outcome.{accepted}
-use Rattle.blocks.specs.BlockSizes.{uvTxSize}
+use Rattle.chroma_transforms.specs.ChromaTransforms.{uvTxSize}
 use Rattle.blocks.specs.ModeInfo.{isIntra}
 use Rattle.cells.specs.Cell.{cellOf, txOf}
 use Rattle.cells.specs.declared.LfCell.{LfCell}
 use Rattle.decisions.specs.Decision.{cellIndex, decisionBy, decision, withoutLevel, levelless}
 use Rattle.edges.specs.Edge.{edgeFacts}
-use Rattle.positions.specs.Positions.{passOf, Placed, sub, edgeCount, edgeLen, lumaX, lumaY, planeX, planeY}
-use Rattle.positions.specs.PositionsLaws.{edge-len-small}
+use Rattle.positions.specs.Positions.{Placed, lumaX, lumaY, planeX, planeY}
+use Rattle.pass_edges.specs.PassEdges.{passOf, sub, edgeCount, edgeLen}
+use Rattle.pass_edges.specs.PassEdgesLaws.{edge-len-small}
 use Rattle.decisions.specs.LevellessLaws.{levelless-at}
 use Rattle.edge_steps.specs.ScreenLaws.{seen, cell-below}
 use Rattle.edge_steps.specs.SuperblockFilter.{onScreen, applyFilter}
 use Rattle.decisions.specs.declared.Decision.{Decision}
 use Rattle.geometry.specs.Frame.{cellsFrom}
 use Rattle.geometry.specs.declared.Pass.{Pass}
-use Rattle.levels.specs.Levels.{levelAt}
+use Rattle.level_lookup.specs.LevelLookup.{levelAt}
 use Rattle.order.specs.Grid.{grid, grid-mem, select-mem, select-passes, select-same}
 use Rattle.order.specs.Order.{run, run-same}
 use Rattle.decided.specs.Decided.{Position, position, Setting, setting, decisionAt, isDecided, decided, settingOf}

@@ -6,16 +6,16 @@ use Prim.Native.Nat.{ℕ}
 use lib.Dec.{ltb}
 use lib.IntN.{pos, natAbs}
 use lib.ListN.{getD}
-use Rattle.blocks.specs.BlockSizes.{uvTxSize}
+use Rattle.chroma_transforms.specs.ChromaTransforms.{uvTxSize}
 use Rattle.decisions.specs.Decision.{cellIndex}
 use Rattle.edges.specs.Edge.{edgeFacts}
-use Rattle.positions.specs.Positions.{edgeCount, edgeLen}
+use Rattle.pass_edges.specs.PassEdges.{edgeCount, edgeLen}
 use Rattle.edges.specs.declared.SuperblockFilterEdge.{SuperblockFilterEdge}
 use Rattle.edges.specs.declared.SuperblockFilterMi.{SuperblockFilterMi}
 use Rattle.geometry.specs.Coordinates.{shr}
 use Rattle.geometry.specs.declared.Pass.{Pass}
 use Rattle.geometry.specs.declared.Superblock.{Superblock}
-use Rattle.levels.specs.Levels.{levelAt}
+use Rattle.level_lookup.specs.LevelLookup.{levelAt}
 use Rattle.line.specs.SampleFiltering.{sampleFiltering}
 use Rattle.order.specs.Grid.{select, grid}
 use Rattle.order.specs.Order.{run}

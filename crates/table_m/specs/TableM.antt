@@ -11,7 +11,7 @@ use Rattle.base.specs.Filled.{filled}
 use Rattle.base.specs.First.{found, firstFrom}
 use Rattle.base.specs.Notation.{Clip3}
 use Rattle.base.specs.Outcome.{Outcome, accepted, refused, held}
-use Rattle.levels.specs.Params.{segFeatureActive, featureAt, resolvedDelta, resolvedFrom, absent}
+use Rattle.frame_header.specs.Params.{segFeatureActive, featureAt, resolvedDelta, resolvedFrom, absent}
 use Rattle.levels.specs.Levels.{clippedLevel, lvlSeg, intraLvl, interLvl, entryLvl, segmentLvl, placeLvl, frameInit, levelTable}
 use Rattle.line.specs.Line.{line}
 use Rattle.line.specs.Masks.{hevMask, filterMask, flatAt, flatMask, flatMask2}
@@ -20,8 +20,8 @@ use Rattle.line.specs.SampleFiltering.{sampleFiltering}
 use Rattle.wide_filter.specs.WideFilter.{sumTo, smoothed, wideFilter}
 use Rattle.strength.specs.Strength.{limitOf, strengthOf, strengthFor}
 use Rattle.strength.specs.declared.FilterStrength.{FilterStrength}
-use Rattle.levels.specs.declared.header.LoopFilterParams.{LoopFilterParams}
-use Rattle.levels.specs.declared.header.SegmentationParams.{SegmentationParams}
+use Rattle.frame_header.specs.declared.LoopFilterParams.{LoopFilterParams}
+use Rattle.frame_header.specs.declared.SegmentationParams.{SegmentationParams}
 
 -- a row: the numbers that the definitions give, and those of the document
 pub record Row : Type 0 where

@@ -2,9 +2,9 @@
 ghost use Prim.Native.Nat.{_<_};
 use crate::numbers::unsigned16;
 use crate::replay::Record;
-use levels::header::Delta;
-use levels::header::LoopFilterParams;
-use levels::header::SegmentationParams;
+use frame_header::Delta;
+use frame_header::LoopFilterParams;
+use frame_header::SegmentationParams;
 use levels::loop_filter::LevelAnswer;
 use levels::loop_filter::level_table;
 

@@ -3,7 +3,7 @@ use mathlib.Core.Path.{_≡_}
 use Rattle.decided.specs.Runs.{cellRun}
 use Rattle.decided.specs.RunsLaws.{Small, cell-small}
 use Rattle.decided.specs.declared.EdgeRun.{EdgeRun}
-use Rattle.positions.specs.PositionsLaws.{cell-first}
+use Rattle.pass_edges.specs.PassEdgesLaws.{cell-first}
 use Rattle.decided.proofs.cell_run_unchecked.Statement.{statement}
 use Rattle.decided.proofs.cell_run_unchecked.Tie as tie
 

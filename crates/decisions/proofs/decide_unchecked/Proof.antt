@@ -4,7 +4,7 @@ use mathlib.Core.Path.{_≡_, sym, _∙_}
 use native.Mathlib.Omega.{arith}
 use Rattle.cells.specs.CellLaws.{cell-fields}
 use Rattle.decisions.specs.Decision.{cellIndex, decision}
-use Rattle.positions.specs.PositionsLaws.{edge-count-small, edge-len-small}
+use Rattle.pass_edges.specs.PassEdgesLaws.{edge-count-small, edge-len-small}
 use Rattle.edge_steps.specs.ScreenLaws.{seen}
 use Rattle.edge_steps.specs.SuperblockFilter.{onScreen}
 use Rattle.decisions.proofs.decide_unchecked.Statement.{statement}

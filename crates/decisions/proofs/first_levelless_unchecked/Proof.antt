@@ -6,9 +6,9 @@ use native.Mathlib.Nat.{sub-self, sub-zero}
 use native.Mathlib.Omega.{arith}
 use Rattle.base.specs.First.{firstFrom, first, first-here, first-end}
 use Rattle.decisions.specs.Decision.{withoutLevel, levelless}
-use Rattle.positions.specs.PositionsLaws.{cell-first}
+use Rattle.pass_edges.specs.PassEdgesLaws.{cell-first}
 use Rattle.decisions.specs.LevellessLaws.{cellPlace, place-edges, levelless-at, first-next-cell}
-use Rattle.positions.specs.Positions.{alongSub}
+use Rattle.pass_edges.specs.PassEdges.{alongSub}
 use Rattle.decisions.proofs.first_levelless_unchecked.Statement.{statement}
 use Rattle.decisions.proofs.first_levelless_unchecked.Tie as tie
 

@@ -10,7 +10,7 @@ use Rattle.blocks.specs.ModeInfo.{badBlock}
 use Rattle.blocks.specs.ModeInfoLaws.{block}
 use Rattle.geometry.specs.Frame.{badSubsampling, badFrameSize, badStart}
 use Rattle.edges.specs.Edge.{edgeFacts, offGrid, superblockOf, superblockFilterEdge}
-use Rattle.positions.specs.Positions.{passOf}
+use Rattle.pass_edges.specs.PassEdges.{passOf}
 use Rattle.positions.specs.PositionsLaws.{placed}
 use Rattle.edges.proofs.superblock_filter_edge.Statement.{statement}
 use Rattle.edges.proofs.superblock_filter_edge.Tie as tie

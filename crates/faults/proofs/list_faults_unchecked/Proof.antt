@@ -9,7 +9,7 @@ use Rattle.decisions.specs.Decision.{levelless}
 use Rattle.geometry.specs.Frame.{cellsFrom}
 use Rattle.window.specs.Window.{badWindow, badSample}
 use Rattle.window.specs.WindowLaws.{Lent, lent}
-use Rattle.cells.specs.Cell.{badCell}
+use Rattle.bad_words.specs.BadWord.{badCell}
 use Rattle.faults.proofs.list_faults_unchecked.Statement.{statement}
 use Rattle.faults.proofs.list_faults_unchecked.Tie as tie
 

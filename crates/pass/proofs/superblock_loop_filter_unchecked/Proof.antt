@@ -8,7 +8,7 @@ use Rattle.decided.specs.CellRunLaws.{cellAt, cellsOf}
 use Rattle.decided.specs.Decided.{Setting, setting}
 use Rattle.decided.specs.Runs.{cellRun}
 use Rattle.order.specs.Grid.{strip, grid, strips-split}
-use Rattle.positions.specs.Positions.{edgeCount}
+use Rattle.pass_edges.specs.PassEdges.{edgeCount}
 use Rattle.pass.specs.WorkLaws.{fresh-good, runsDone, filtered-done, walk-whole, Walk, walk-none, walk-then, walk-ready, pass-length}
 use Rattle.pass.proofs.superblock_loop_filter_unchecked.Statement.{statement}
 use Rattle.pass.proofs.superblock_loop_filter_unchecked.Tie as tie

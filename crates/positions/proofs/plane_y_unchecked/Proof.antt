@@ -1,6 +1,6 @@
 use borrow.Author.Needs.{needs}
 use native.Mathlib.Omega.{arith}
-use Rattle.positions.specs.PositionsLaws.{shr-small}
+use Rattle.geometry.specs.CoordinatesLaws.{shr-small}
 use Rattle.positions.specs.Positions.{planeY}
 use Rattle.positions.proofs.plane_y_unchecked.Statement.{statement}
 use Rattle.positions.proofs.plane_y_unchecked.Tie as tie

@@ -10,8 +10,10 @@ use mir.Syntax.{w32}
 use Rattle.base.specs.Filled.{filled, filled-none, filled-more}
 use Rattle.base.specs.First.{found-false}
 use Rattle.base.specs.Machine.{back}
-use Rattle.blocks.specs.BlockSizes.{bySize, uvLimit, uvTxSize}
-use Rattle.blocks.specs.BlockSizesLaws.{by-size, uv-tx}
+use Rattle.blocks.specs.BlockSizes.{bySize}
+use Rattle.chroma_transforms.specs.ChromaTransforms.{uvLimit, uvTxSize}
+use Rattle.blocks.specs.BlockSizesLaws.{by-size}
+use Rattle.chroma_transforms.specs.ChromaTransformsLaws.{uv-tx}
 use Rattle.blocks.specs.ModeInfoLaws.{Block, block}
 use Rattle.row.specs.Row.{ModeInfo, modeInfo, cellAt, wordAt, badAt}
 use Rattle.row.specs.RowLaws.{Long, long}

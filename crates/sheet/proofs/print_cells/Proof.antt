@@ -6,13 +6,13 @@ use Prim.Native.Nat.{ℕ, _*_, _<_}
 use native.Mathlib.Omega.{arith}
 use Rattle.base.specs.First.{found, first, first-is}
 use Rattle.base.specs.FirstLaws.{first-below, first-past}
-use Rattle.cells.specs.Cell.{badCell}
-use Rattle.positions.specs.Positions.{passOf, edgeCount}
-use Rattle.positions.specs.PositionsLaws.{edge-count-small}
+use Rattle.bad_words.specs.BadWord.{badCell}
+use Rattle.pass_edges.specs.PassEdges.{passOf, edgeCount}
+use Rattle.pass_edges.specs.PassEdgesLaws.{edge-count-small}
 use Rattle.sheet.specs.Sheet.{sheetSetting}
 use Rattle.sheet.specs.SheetFits.{cells-few}
 use Rattle.sheet.specs.SheetLaws.{cellCount, gridPlaces, levellessAt, cells-bad, cells-without, cells-good}
-use Rattle.sheet_lines.specs.declared.header.SheetHeader.{SheetHeader}
+use Rattle.sheet_header.specs.declared.SheetHeader.{SheetHeader}
 use Rattle.text.specs.TextLaws.{put-then}
 use Rattle.sheet.proofs.print_cells.Statement.{statement}
 use Rattle.sheet.proofs.print_cells.Tie as tie

@@ -14,12 +14,12 @@ use Rattle.faults.specs.Faults.{returnedOf}
 use Rattle.faults.specs.declared.PassAnswer.{PassAnswer}
 use Rattle.faults.specs.declared.PassAnswer.the-variants.{Done}
 use Rattle.faults.specs.FaultsLaws.{afterwards, done-or-refused, numbers-passed, numbers-any}
-use Rattle.sheet_lines.specs.SheetLines.{headerOf, badHeader}
+use Rattle.sheet_header.specs.SheetHeader.{headerOf, badHeader}
 use Rattle.sheet.specs.Sheet.{cellsOf, cellsRuns, sheetRuns}
-use Rattle.sheet_lines.specs.HeaderLaws.{header-narrow}
+use Rattle.sheet_header.specs.SheetHeaderLaws.{header-narrow}
 use Rattle.sheet.specs.SheetFits.{Tame, sheet-tame}
 use Rattle.sheet.specs.SheetLaws.{sheet-short, sheet-spare, sheet-rest, sheet-text}
-use Rattle.sheet_lines.specs.declared.header.SheetHeader.{SheetHeader}
+use Rattle.sheet_header.specs.declared.SheetHeader.{SheetHeader}
 use Rattle.sheet.proofs.print_sheet.Statement.{statement}
 use Rattle.sheet.proofs.print_sheet.Tie as tie
 

@@ -7,8 +7,8 @@ use native.Mathlib.Omega.{arith}
 use lib.ListN.{length, take}
 use lib.Seq.{length-take-le}
 use Rattle.base.specs.Filled.{length-filled, take-filled}
-use Rattle.cells.specs.Cell.{bytesAt, wordsAt}
-use Rattle.sheet_lines.specs.HeaderLaws.{header-small}
+use Rattle.word_bytes.specs.WordBytes.{bytesAt, wordsAt}
+use Rattle.sheet_header.specs.SheetHeaderLaws.{header-small}
 use Rattle.sheet.specs.Sheet.{cellsOf}
 use Rattle.sheet.specs.SheetFits.{cells-few}
 use Rattle.sheet.proofs.print_words.Statement.{statement}

@@ -8,7 +8,8 @@ use mir.Facts.{toZ-ofZ}
 use mir.Syntax.{w32}
 use mir.Val.{SFits, toZ, ofZ}
 use Rattle.levels.specs.LevelTableLaws.{level-small}
-use Rattle.levels.proofs.LevelLaws.{level-low, level-high, level-kept, not-negative}
+use Rattle.level_lookup.specs.LevelLookupLaws.{not-negative}
+use Rattle.levels.proofs.LevelLaws.{level-low, level-high, level-kept}
 use Rattle.levels.proofs.loop_filter.clip_level.Statement.{statement}
 use Rattle.levels.proofs.loop_filter.clip_level.Tie as tie
 

@@ -5,8 +5,8 @@ use Prim.Native.Nat.{ℕ, _+_, _-_, _*_, _/_, _%_, _≤_, _<_}
 use lib.ListN.{length, length-set}
 use Rattle.base.specs.Filled.{filled, filled-none, filled-more}
 use Rattle.levels.specs.Levels.{entryLvl, segmentLvl}
-use Rattle.levels.specs.declared.header.LoopFilterParams.{LoopFilterParams}
-use Rattle.levels.specs.declared.loop_filter.Deltas.{Deltas}
+use Rattle.frame_header.specs.declared.LoopFilterParams.{LoopFilterParams}
+use Rattle.frame_header.specs.declared.Deltas.{Deltas}
 use Rattle.levels.proofs.loop_filter.store_segment.Statement.{statement}
 use Rattle.levels.proofs.loop_filter.store_segment.Tie as tie
 

@@ -4,7 +4,7 @@ use Prim.Native.Nat.{_-_, _≤_}
 use native.Mathlib.Omega.{arith}
 use Rattle.decided.specs.Runs.{cellRun}
 use Rattle.order.specs.Grid.{grid}
-use Rattle.positions.specs.Positions.{edgeCount}
+use Rattle.pass_edges.specs.PassEdges.{edgeCount}
 use Rattle.sheet.specs.PrintLaws.{Fed, fresh-small, fed-none, fed-length, fed-grid, grid-near, fed-all}
 use Rattle.sheet.proofs.runs.print_runs.Statement.{statement}
 use Rattle.sheet.proofs.runs.print_runs.Tie as tie

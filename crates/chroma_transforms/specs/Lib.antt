@@ -1,0 +1,2 @@
+pub mod ChromaTransforms
+pub mod ChromaTransformsLaws

@@ -1,0 +1,2 @@
+pub mod LevelLookup
+pub mod LevelLookupLaws

@@ -1,0 +1,2 @@
+pub mod PassEdges
+pub mod PassEdgesLaws

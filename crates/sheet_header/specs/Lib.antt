@@ -1,0 +1,2 @@
+pub mod SheetHeader
+pub mod SheetHeaderLaws
