@@ -7,7 +7,7 @@ pub const SHEET_ROOM: usize = 2048;
 
 /// What a pass would filter, for a look at what cells come to: a line for the pass and one for each run, or the one line
 /// of a refusal, `refused N place P`. The bytes are a header of 8 and four for each cell of a superblock row, as
-/// `crates/sheet_lines/specs/SheetLines.antt` describes them.
+/// `crates/sheet_header/specs/SheetHeader.antt` describes them.
 #[must_use]
 pub fn sheet(bytes: &[u8]) -> String {
     let mut text = [0; SHEET_ROOM];
