@@ -76,9 +76,12 @@ fn largest_row() {
     assert_eq!(same(&row, 65_535), Returned { number: 7, place: 0 });
 }
 
+/// What is changed, and the number and place of the refusal.
+type Change = (fn(&mut Row), u32, u32);
+
 #[test]
 fn refusals() {
-    let changes: [(fn(&mut Row), u32, u32); 9] = [
+    let changes: [Change; 9] = [
         (|row| row.frame.sharpness = 8, 1, 0),
         (|row| row.frame.bit_depth = 9, 2, 0),
         (|row| row.frame.sub_x = 2, 3, 0),
