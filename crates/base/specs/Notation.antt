@@ -9,11 +9,19 @@ use lib.Signed.{ltZ, shrZ}
 unfoldable pub Clip3 : ℤ → ℤ → ℤ → ℤ
 Clip3 lo hi v = cond (ltZ v lo) lo (cond (ltZ hi v) hi v)
 
--- v << n
+-- v << n and v >> n for a number
+infixl 60 _<<_ _>>_
+abbrev pub _<<_ : ℕ → ℕ → ℕ
+v << n = v * 2 ^ n
+
+abbrev pub _>>_ : ℕ → ℕ → ℕ
+v >> n = v / 2 ^ n
+
+-- v << n for an integer
 abbrev pub shlZ : ℤ → ℕ → ℤ
 shlZ v n = v *ℤ pos (2 ^ n)
 
--- v >> n: a negative number is rounded down too
+-- v >> n for an integer: a negative one is rounded down too
 abbrev pub asrZ : ℤ → ℕ → ℤ
 asrZ v n = shrZ v (2 ^ n)
 
