@@ -1,1 +1,2 @@
 pub mod LoopFilterProcess
+pub mod Examples
