@@ -2,3 +2,4 @@ pub mod Coordinates
 pub mod CoordinatesLaws
 pub mod Frame
 pub mod FrameLaws
+pub mod FrameStandard

@@ -1,2 +1,3 @@
 pub mod PassEdges
 pub mod PassEdgesLaws
+pub mod PassEdgesStandard

@@ -1,2 +1,3 @@
 pub mod Positions
 pub mod PositionsLaws
+pub mod PositionsStandard
