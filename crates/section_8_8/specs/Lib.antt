@@ -1,2 +1,3 @@
 pub mod LoopFilterProcess
 pub mod Examples
+pub mod TapsInPlane

@@ -1,7 +1,7 @@
 -- The loop filter process of VP9-S, section 8.8, for a whole frame: from header values and mode info to three planes, in the
 -- standard's order and with its names and step numbers. Nothing is called the standard's that is not proved equal to this page.
 -- A plane is a function of a sample's x and y, mode info one of a cell's row and column. That no tap is read outside of the frame
--- is a theorem (`taps-in-plane`, crate standard). Assumes nothing.
+-- is a theorem (`taps-in-plane`). Assumes nothing.
 use mathlib.Core.Bool.{Bool, false, cond, not, _&&_, _||_}
 use mathlib.Core.List.{List, [], _∷_}
 use Prim.Native.Nat.{ℕ, zero, suc, _+_, _-_, _*_, _/_, _%_, min, max}
