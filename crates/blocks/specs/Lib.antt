@@ -2,3 +2,4 @@ pub mod BlockSizes
 pub mod BlockSizesLaws
 pub mod ModeInfo
 pub mod ModeInfoLaws
+pub mod BlocksStandard

@@ -1,2 +1,3 @@
 pub mod ChromaTransforms
 pub mod ChromaTransformsLaws
+pub mod ChromaTransformsStandard

@@ -1,3 +1,4 @@
 pub mod SuperblockFilter
 pub mod FilterSize
 pub mod ScreenLaws
+pub mod StepsStandard

@@ -2,7 +2,7 @@
 -- Assumes nothing.
 use mathlib.Core.Path.{_≡_}
 use Prim.Native.Nat.{ℕ}
-use Rattle.base.specs.Notation.{_<<_, _>>_}
+use Rattle.base.specs.Notation.{_>>_}
 use Rattle.section_8_8.specs.LoopFilterProcess as Std
 use Rattle.geometry.specs.FrameStandard.{superblockAt, passNumber, Subsampled, sub-x-small, sub-y-small, shl-flag, shr-flag}
 use Rattle.geometry.specs.declared.Pass.{Pass}
