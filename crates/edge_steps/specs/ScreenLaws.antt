@@ -50,7 +50,7 @@ seen s pass edge i h k e =
     record { column = leb-false _ _ (frame .0); row = leb-false _ _ (frame .1); from = row .0; to = row .1 }
 
 -- rounding to the subsampling grid leads no further up than the superblock row's first cell, which is on the grid
-loop-cell-small : (sub : Bool) (at : ℕ) → loopCell sub at ≤ at / 8
+pub loop-cell-small : (sub : Bool) (at : ℕ) → loopCell sub at ≤ at / 8
 unfolding loopCell
 loop-cell-small true at = omega arith
 loop-cell-small false at = omega arith

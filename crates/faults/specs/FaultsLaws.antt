@@ -12,10 +12,12 @@ use Rattle.base.specs.Depth.{supported}
 use Rattle.base.specs.First.{found}
 use Rattle.base.specs.Outcome.{Outcome, accepted, refused, refuse, Answers}
 use Rattle.base.specs.OutcomeLaws.{passed}
+use Rattle.base.specs.Tests.{neither}
 use Rattle.bad_words.specs.BadWord.{badCell}
 use Rattle.decided.specs.Decided.{Setting}
 use Rattle.decisions.specs.Decision.{levelless}
 use Rattle.geometry.specs.Frame.{badSubsampling, badFrameSize, badStart, cellsFrom}
+use Rattle.geometry.specs.FrameLaws.{flags}
 use Rattle.geometry.specs.declared.Pass.{Pass}
 use Rattle.positions.specs.Positions.{Placed}
 use Rattle.pass_edges.specs.PassEdges.{edgeCount}
@@ -29,15 +31,18 @@ use Rattle.faults.specs.declared.PassAnswer.the-variants.{Done, Sharpnes
 
 -- ---- what the tests of the numbers leave
 
-pub record Numbers (sharpness depth miCols miRows row col cellsLent : ℕ) : Type 0 where
+pub record Numbers (sharpness depth subX subY miCols miRows row col plane pass cellsLent : ℕ) : Type 0 where
   pub sharpness-fits : sharpness ≤ 7
   pub depth-known : supported depth ≡ true
+  pub flags : (subX ≤ 1) × (subY ≤ 1)
+  pub plane-known : plane ≤ 2
+  pub pass-known : pass ≤ 1
   pub placed-at : (subx suby : Bool) → Placed (record { subx = subx; suby = suby; cols = miCols; rows = miRows; row = row; col = col })
   pub cells-lent : cellsFrom row miCols miRows ≤ cellsLent
 
 pub numbers-passed : {A : Type 0} (sharpness depth subX subY miCols miRows row col plane pass cellsLent : ℕ) (after : Outcome A) {result : A}
     → numbersRefused sharpness depth subX subY miCols miRows row col plane pass cellsLent after ≡ accepted result
-    → Numbers sharpness depth miCols miRows row col cellsLent × (after ≡ accepted result)
+    → Numbers sharpness depth subX subY miCols miRows row col plane pass cellsLent × (after ≡ accepted result)
 numbers-passed sharpness depth subX subY miCols miRows row col plane pass cellsLent after e =
     let t1 = passed (ltb 7 sharpness) 1 0 _ e in
     let t2 = passed (not (supported depth)) 2 0 _ (t1 .1) in
@@ -46,10 +51,14 @@ numbers-passed sharpness depth subX subY miCols miRows row col plane pass cellsL
     let t5 = passed (badStart row miRows) 5 0 _ (t4 .1) in
     let t7 = passed (ltb cellsLent (cellsFrom row miCols miRows)) 7 0 _ (t5 .1) in
     let t9 = passed (ltb 2 plane || ltb 1 pass) 9 0 _ (t7 .1) in
+    let known = neither (ltb 2 plane) (t9 .0) in
     let t10 = passed (badStart col miCols) 10 0 _ (t9 .1) in (
       record {
         sharpness-fits = ltb-false 7 sharpness (t1 .0);
         depth-known = not-false (supported depth) (t2 .0);
+        flags = flags subX subY (t3 .0);
+        plane-known = ltb-false 2 plane (known .0);
+        pass-known = ltb-false 1 pass (known .1);
         placed-at = λ subx suby. placed (record { subx = subx; suby = suby; cols = miCols; rows = miRows; row = row; col = col }) (t4 .0) (t5 .0) (t10 .0);
         cells-lent = ltb-false cellsLent (cellsFrom row miCols miRows) (t7 .0);
       },

@@ -7,7 +7,11 @@ use native.Mathlib.Omega.{arith}
 use lib.Dec.{eqb, ltb}
 use borrow.Author.Tests.{not-false, eqb-true, ltb-false, leb-false}
 use Rattle.base.specs.Tests.{neither}
-use Rattle.geometry.specs.Frame.{badFrameSize, badStart, rowsFrom, cellsFrom}
+use Rattle.geometry.specs.Frame.{badSubsampling, badFrameSize, badStart, rowsFrom, cellsFrom}
+
+pub flags : (subX subY : ℕ) → badSubsampling subX subY ≡ false → (subX ≤ 1) × (subY ≤ 1)
+unfolding badSubsampling
+flags subX subY e = let s = neither (ltb 1 subX) e in (ltb-false 1 subX (s .0), ltb-false 1 subY (s .1))
 
 pub record Sized (miCols miRows : ℕ) : Type 0 where
   pub cols : miCols ≤ 8192

@@ -31,7 +31,7 @@ module _ (g : WindowShape) (sharpness depth subX subY miCols miRows row col plan
 
   -- its tests are passed, and this is its result
   pub record Ran (result : List ℕ) : Type 0 where
-    pub numbers : Numbers sharpness depth miCols miRows row col (length cells)
+    pub numbers : Numbers sharpness depth subX subY miCols miRows row col plane pass (length cells)
     pub lists : Lists g given (passOf pass) samples
     pub result-is : result ≡ superblockLoopFilter g given (passOf pass) samples
 
