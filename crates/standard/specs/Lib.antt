@@ -1,2 +1,2 @@
-pub mod StandardPass
-pub mod PassStandard
+pub mod FrameLists
+pub mod DecidedStandard
