@@ -4,7 +4,7 @@ use mathlib.Core.Logic.{⊎-elim}
 use mathlib.Core.Path.{_≡_, sym, _∙_}
 use mathlib.Core.Bool.{false}
 use Prim.Native.Nat.{_≤_}
-use lib.Dec.{eqb, ltb}
+use lib.Dec.{eqb}
 use Rattle.chroma_transforms.specs.ChromaTransforms.{ssSize, uvLimit}
 use Rattle.chroma_transforms.specs.ChromaTransformsLaws.{ss-size}
 use Rattle.chroma_transforms.proofs.uv_limit_unchecked.Statement.{statement}
@@ -30,16 +30,13 @@ module _ (c : tie.After-max-tx-size-unchecked) where
   abbrev at-if2 : tie.Else2
   at-if2 = c .before
 
-  large : ltb (at-if2 .before .before .before .args .mi-size) 3 ≡ false
-  large = le-ltb _ _ (at-if2 .before .before .if1 .left)
-
   valid : eqb (ssSize (at-if2 .before .before .before .args .mi-size) (at-if2 .before .before .before .args .subx) (at-if2 .before .before .before .args .suby)) 14 ≡ false
   valid = ne-eqb _ _ (λ h. at-if2 .if2 .left (at-if2 .before .ss-size-unchecked .ensures ∙ h))
 
 returns-3 : tie.Need-returns-3
 unfolding uvLimit
 returns-3 c =
-    rw (large c, valid c, sym (c .before .before .ss-size-unchecked .ensures), sym (c .max-tx-size-unchecked .ensures))
+    rw (le-ltb _ _ (c .before .before .before .if1 .left), valid c, sym (c .before .before .ss-size-unchecked .ensures), sym (c .max-tx-size-unchecked .ensures))
 
 pub uv-limit-unchecked-spec : {M : Type 1} → statement M
 uv-limit-unchecked-spec = tie.close (tie.spec returns (search needs) returns-2 (λ c κs. exists c) returns-3)
