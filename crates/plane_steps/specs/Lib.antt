@@ -1,0 +1,3 @@
+pub mod PassNumber
+pub mod LineTaps
+pub mod PlaneLines
