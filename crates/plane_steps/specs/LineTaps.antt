@@ -4,7 +4,6 @@ use mathlib.Core.Path.{_≡_, refl}
 use mathlib.Core.List.{List, [], _∷_}
 use Prim.Native.Nat.{ℕ, zero, suc, _+_, _-_, _≤_, _<_}
 use native.Mathlib.Omega.{arith}
-use lib.ListN.{length}
 use Rattle.section_8_8.specs.LoopFilterProcess as Std
 use Rattle.wide_filter.specs.Taps.{tap}
 
@@ -13,9 +12,6 @@ abbrev pub tapsOf : Std.Line → List ℕ
 tapsOf l =
     l .p 7 ∷ l .p 6 ∷ l .p 5 ∷ l .p 4 ∷ l .p 3 ∷ l .p 2 ∷ l .p 1 ∷ l .p 0
     ∷ l .q 0 ∷ l .q 1 ∷ l .q 2 ∷ l .q 3 ∷ l .q 4 ∷ l .q 5 ∷ l .q 6 ∷ l .q 7 ∷ []
-
-pub taps-length : (l : Std.Line) → length (tapsOf l) ≡ 16
-taps-length l = refl
 
 -- the tap at place k
 eight : (P : ℕ → Type 0) → P 0 → P 1 → P 2 → P 3 → P 4 → P 5 → P 6 → P 7 → (k : ℕ) → k < 8 → P k

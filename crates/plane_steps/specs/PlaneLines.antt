@@ -3,7 +3,6 @@
 use mathlib.Core.Path.{_≡_, refl, sym, ap, _∙_, subst}
 use mathlib.Core.Bool.{Bool, true, false, cond, _&&_}
 use Prim.Native.Nat.{ℕ, _+_, _-_, _*_, _≤_, _<_}
-use native.Mathlib.Decide.{decLt}
 use native.Mathlib.Omega.{arith}
 use lib.Dec.{T, eqb, ltb}
 use borrow.Author.Tests.{eqb-true, eq-eqb, ltb-true, ltb-false, lt-ltb, le-ltb}
@@ -56,7 +55,7 @@ far l m b x u h =
 -- what is read at u is what stands there
 vertical-back : (x y u : ℕ) (s : Std.Plane) → Std.tapAt (Std.lineAt 0 x y s) x u ≡ s u y
 unfolding Std.lineAt
-vertical-back x y u s = 
+vertical-back x y u s =
     by-side (λ (n : ℕ). n ≡ s u y) (Std.lineAt 0 x y s) x u
     (λ h. let k : ℕ = x - 1 - u + 1 in let e : x - 1 * k ≡ u = omega arith in let d : y - 0 * k ≡ y = omega arith in rw (e, d))
     (λ h. let k : ℕ = u - x in let e : x + 1 * k ≡ u = omega arith in let d : y + 0 * k ≡ y = omega arith in rw (e, d))

@@ -1,8 +1,8 @@
 -- One position's step on a window and on the standard's plane: where no tap that the filter size reads is clamped, they do the same
 -- to every sample of the window (`step-standard`).
 -- Assumes nothing.
-use mathlib.Core.Path.{_≡_, sym, ap, _∙_, subst}
-use mathlib.Core.Bool.{Bool, true, _&&_}
+use mathlib.Core.Path.{_≡_, sym, ap, _∙_}
+use mathlib.Core.Bool.{true, _&&_}
 use mathlib.Core.List.{List}
 use mathlib.Core.Logic.{_⊎_, inl, inr}
 use Prim.Native.Nat.{ℕ, zero, suc, _+_, _-_, _≤_, _<_}
@@ -20,9 +20,9 @@ use Rattle.window.specs.StencilLaws.{gather-at, gather-length, applied-at, appl
 use Rattle.window.specs.Window.{place, clamp, tapX, tapY, tapRead, tapStored, tapWritten, stencil}
 use Rattle.window.specs.WindowLaws.{Lent, Inside, Tap, place-lent, place-unique, among-yes, tap-in, tap-inside}
 use Rattle.window.specs.declared.WindowShape.{WindowShape}
-use Rattle.plane_steps.specs.LineTaps.{tapsOf, taps-length}
+use Rattle.plane_steps.specs.LineTaps.{tapsOf}
 use Rattle.plane_steps.specs.PassNumber.{passNumber}
-use Rattle.plane_steps.specs.PlaneLines.{IsTap, Beyond, Which, one, none, which, same-tap, stored-near, stored-far, line-near}
+use Rattle.plane_steps.specs.PlaneLines.{IsTap, Which, one, none, which, same-tap, stored-near, stored-far, line-near}
 
 -- the window's samples are those of a plane
 pub record Shows (g : WindowShape) (samples : List ℕ) (s : Std.Plane) : Type 0 where
@@ -96,16 +96,14 @@ module _ (g : WindowShape) (pass : Pass) (x y : ℕ) (line : List ℕ → List �
       → tap (taps (stencil g pass x y true line) samples) k ≡ tap (tapsOf (Std.lineAt (passNumber pass) x y s)) k
   tap-shown k u v h i t =
       gather-at (tapRead g pass x y) 0 16 samples k h
-      ∙ ap (λ (j : ℕ). getD samples (tapRead g pass x y j) 0) (zero-add k)
-      ∙ ap (λ (j : ℕ). getD samples j 0) (read-at g pass x y k u v i t)
-      ∙ shown .at u v i
+      ∙ rw (zero-add k, read-at g pass x y k u v i t) (shown .at u v i)
       ∙ sym (line-near pass x y k u v h t s)
 
   taps-shown : (r : ℕ) → r ≤ 8 → Unclamped g pass x y r → Agree r (taps (stencil g pass x y true line) samples) (tapsOf (Std.lineAt (passNumber pass) x y s))
   taps-shown r small clear = record {
     same = λ k low high.
-      let t = clear .inside k low high in
-      tap-shown k (tapX pass x k - 8) (tapY pass y k - 8) (omega arith) (tap-inside g (tapX pass x k) (tapY pass y k) t) (record { column = omega arith; row = omega arith });
+        let t = clear .inside k low high in
+        tap-shown k (tapX pass x k - 8) (tapY pass y k - 8) (omega arith) (tap-inside g (tapX pass x k) (tapY pass y k) t) (record { column = omega arith; row = omega arith });
   }
 
 -- ---- the step
@@ -114,35 +112,35 @@ module _
     (sample-filtering-standard : (B size limit blimit thresh : ℕ) (l : Std.Line) → sampleFiltering B size limit blimit thresh (tapsOf l) ≡ tapsOf (Std.sampleFiltering B size limit blimit thresh l))
     (beyond-kept : (B size limit blimit thresh : ℕ) (l : Std.Line) (k : ℕ) → 7 ≤ k → (Std.sampleFiltering B size limit blimit thresh l .p k ≡ l .p k) × (Std.sampleFiltering B size limit blimit thresh l .q k ≡ l .q k))
   where
-  pub step-standard : (g : WindowShape) (pass : Pass) (x y B size limit blimit thresh : ℕ) (samples : List ℕ) (s : Std.Plane)
-      → Lent g (length samples) → Shows g samples s → Unclamped g pass x y (reads size)
-      → Shows g (applied (stencil g pass x y true (sampleFiltering B size limit blimit thresh)) samples)
+    pub step-standard : (g : WindowShape) (pass : Pass) (x y B size limit blimit thresh : ℕ) (samples : List ℕ) (s : Std.Plane)
+        → Lent g (length samples) → Shows g samples s → Unclamped g pass x y (reads size)
+        → Shows g (applied (stencil g pass x y true (sampleFiltering B size limit blimit thresh)) samples)
         (Std.stored (passNumber pass) x y (Std.sampleFiltering B size limit blimit thresh (Std.lineAt (passNumber pass) x y s)) s)
-  step-standard g pass x y B size limit blimit thresh samples s lent shown clear = record { at = λ u v i. cases u v i (which pass x y u v) }
-    where
-      here : Stencil
-      here = stencil g pass x y true (sampleFiltering B size limit blimit thresh)
+    step-standard g pass x y B size limit blimit thresh samples s lent shown clear = record { at = λ u v i. cases u v i (which pass x y u v) }
+      where
+        here : Stencil
+        here = stencil g pass x y true (sampleFiltering B size limit blimit thresh)
 
-      l : Std.Line
-      l = Std.lineAt (passNumber pass) x y s
+        l : Std.Line
+        l = Std.lineAt (passNumber pass) x y s
 
-      after : Std.Line
-      after = Std.sampleFiltering B size limit blimit thresh l
+        after : Std.Line
+        after = Std.sampleFiltering B size limit blimit thresh l
 
-      cases : (u v : ℕ) → Inside g u v → Which pass x y u v → getD (applied here samples) (place g u v) 0 ≡ Std.stored (passNumber pass) x y after s u v
-      cases u v i (none h) =
-          applied-other here samples (place g u v) 0 (λ k n d e. h k n (stored-is g (lent .rows) pass x y k u v i d e))
-          ∙ shown .at u v i
-          ∙ sym (stored-far pass x y u v h after s (record { p = λ k n. beyond-kept B size limit blimit thresh l k n .0; q = λ k n. beyond-kept B size limit blimit thresh l k n .1 }))
-      cases u v i (one k h t) =
-          let w = written-at g pass x y k u v i t in
-          ap (λ (j : ℕ). getD (applied here samples) j 0) (sym w)
-          ∙ applied-at here samples k 0 h (is-stored g pass x y k u v i t)
-          (subst (λ (j : ℕ). j < length samples) (sym w) (place-lent g (length samples) u v lent i))
-          (λ j n d e. same-tap pass x y k j u v t (stored-is g (lent .rows) pass x y j u v i d (sym w ∙ e)))
-          ∙ filters-same B size limit blimit thresh (taps here samples) (tapsOf l) (gather-length (here .reads) 0 16 samples)
-          (taps-shown g pass x y (here .line) samples s shown (reads size) (reads-eight size) clear)
-          k
-          (tap-shown g pass x y (here .line) samples s shown k u v h i t)
-          ∙ ap (λ (r : List ℕ). tap r k) (sample-filtering-standard B size limit blimit thresh l)
-          ∙ sym (stored-near pass x y k u v h t after s)
+        cases : (u v : ℕ) → Inside g u v → Which pass x y u v → getD (applied here samples) (place g u v) 0 ≡ Std.stored (passNumber pass) x y after s u v
+        cases u v i (none h) =
+            applied-other here samples (place g u v) 0 (λ k n d e. h k n (stored-is g (lent .rows) pass x y k u v i d e))
+            ∙ shown .at u v i
+            ∙ sym (stored-far pass x y u v h after s (record { p = λ k n. beyond-kept B size limit blimit thresh l k n .0; q = λ k n. beyond-kept B size limit blimit thresh l k n .1 }))
+        cases u v i (one k h t) =
+            let w = written-at g pass x y k u v i t in
+            ap (λ (j : ℕ). getD (applied here samples) j 0) (sym w)
+            ∙ applied-at here samples k 0 h (is-stored g pass x y k u v i t)
+            (rw w (place-lent g (length samples) u v lent i))
+            (λ j n d e. same-tap pass x y k j u v t (stored-is g (lent .rows) pass x y j u v i d (sym w ∙ e)))
+            ∙ filters-same B size limit blimit thresh (taps here samples) (tapsOf l) (gather-length (here .reads) 0 16 samples)
+            (taps-shown g pass x y (here .line) samples s shown (reads size) (reads-eight size) clear)
+            k
+            (tap-shown g pass x y (here .line) samples s shown k u v h i t)
+            ∙ ap (λ (r : List ℕ). tap r k) (sample-filtering-standard B size limit blimit thresh l)
+            ∙ sym (stored-near pass x y k u v h t after s)

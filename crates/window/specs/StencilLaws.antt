@@ -68,8 +68,8 @@ module _ (stored : ℕ → Bool) (writes sample : ℕ → ℕ) where
   scatter-at (suc n) w k d l t r h = ⊎-elim
       (λ (e : k ≡ n). rw e (put-same (stored n) (writes n) (sample n) (scatter stored writes sample n w) d (rw e at t) (rw scatter-length (rw e at r))))
       (λ (q : k < n).
-        put-other (stored n) (writes n) (sample n) (scatter stored writes sample n w) (writes k) d (λ u e. let same = h n (omega arith) u e in omega arith)
-        ∙ scatter-at n w k d q t r (λ j i. h j (omega arith)))
+      put-other (stored n) (writes n) (sample n) (scatter stored writes sample n w) (writes k) d (λ u e. let same = h n (omega arith) u e in omega arith)
+      ∙ scatter-at n w k d q t r (λ j i. h j (omega arith)))
       (eq-or-lt-of-le (le-of-suc-le-suc l))
 
   scatter-idle : (n : ℕ) (w : List ℕ) → ((k : ℕ) → k < n → stored k ≡ false) → scatter stored writes sample n w ≡ w
