@@ -51,15 +51,12 @@ module _ (B size limit blimit thresh : ℕ) where
   filters-same : (t u : List ℕ) → length t ≡ length u → Agree (reads size) t u → (k : ℕ) → tap t k ≡ tap u k → tap (filtered t) k ≡ tap (filtered u) k
   filters-same t u e a k same = cases (decLt (k + reads size) 8) (decLt k (8 + reads size))
     where
-      fewer : changes size ≤ reads size
-      fewer = changes-read size
-
       kept : (k + changes size < 8) ⊎ (8 + changes size ≤ k) → tap (filtered t) k ≡ tap (filtered u) k
       kept h = filters-kept B size limit blimit thresh t k h ∙ same ∙ sym (filters-kept B size limit blimit thresh u k h)
 
       cases : Dec (k + reads size < 8) → Dec (k < 8 + reads size) → tap (filtered t) k ≡ tap (filtered u) k
-      cases (yes p) q = kept (inl (let f = fewer in omega arith))
-      cases (no p) (no q) = kept (inr (let f = fewer in omega arith))
+      cases (yes p) q = kept (inl (omega (arith, changes-read size)))
+      cases (no p) (no q) = kept (inr (omega (arith, changes-read size)))
       cases (no p) (yes q) = filters-agree B size limit blimit thresh t u e a .same k (omega arith) q
 
 -- ---- a tap in the window
@@ -134,13 +131,11 @@ module _
             ∙ sym (stored-far pass x y u v h after s (record { p = λ k n. beyond-kept B size limit blimit thresh l k n .0; q = λ k n. beyond-kept B size limit blimit thresh l k n .1 }))
         cases u v i (one k h t) =
             let w = written-at g pass x y k u v i t in
+            let room : tapWritten g pass x y k < length samples = rw w (place-lent g (length samples) u v lent i) in
+            let agree = taps-shown g pass x y (here .line) samples s shown (reads size) (reads-eight size) clear in
+            let same = tap-shown g pass x y (here .line) samples s shown k u v h i t in
             ap (λ (j : ℕ). getD (applied here samples) j 0) (sym w)
-            ∙ applied-at here samples k 0 h (is-stored g pass x y k u v i t)
-            (rw w (place-lent g (length samples) u v lent i))
-            (λ j n d e. same-tap pass x y k j u v t (stored-is g (lent .rows) pass x y j u v i d (sym w ∙ e)))
-            ∙ filters-same B size limit blimit thresh (taps here samples) (tapsOf l) (gather-length (here .reads) 0 16 samples)
-            (taps-shown g pass x y (here .line) samples s shown (reads size) (reads-eight size) clear)
-            k
-            (tap-shown g pass x y (here .line) samples s shown k u v h i t)
+            ∙ applied-at here samples k 0 h (is-stored g pass x y k u v i t) room (λ j n d e. same-tap pass x y k j u v t (stored-is g (lent .rows) pass x y j u v i d (sym w ∙ e)))
+            ∙ filters-same B size limit blimit thresh (taps here samples) (tapsOf l) (gather-length (here .reads) 0 16 samples) agree k same
             ∙ ap (λ (r : List ℕ). tap r k) (sample-filtering-standard B size limit blimit thresh l)
             ∙ sym (stored-near pass x y k u v h t after s)

@@ -1,4 +1,4 @@
--- Laws of stencils: what they leave alone, and that two which meet nowhere can be exchanged (`applied-exchange`).
+-- Laws of stencils: what they leave alone, what they store, and that two which meet nowhere can be exchanged (`applied-exchange`).
 -- Assumes nothing.
 use mathlib.Core.Path.{_≡_, refl, sym, ap, _∙_}
 use mathlib.Core.Logic.{_≢_, ⊎-elim}
