@@ -1,15 +1,15 @@
--- Laws of stencils: what they leave alone, and that two which meet nowhere can be exchanged (`applied-exchange`).
+-- Laws of stencils: what they leave alone, what they store, and that two which meet nowhere can be exchanged (`applied-exchange`).
 -- Assumes nothing.
 use mathlib.Core.Path.{_≡_, refl, sym, ap, _∙_}
-use mathlib.Core.Logic.{_≢_}
+use mathlib.Core.Logic.{_≢_, ⊎-elim}
 use mathlib.Core.Bool.{Bool, true, false}
 use mathlib.Core.List.{List, _∷_}
 use Prim.Native.Nat.{ℕ, zero, suc, _+_, _<_}
-use native.Mathlib.Nat.{add-zero, add-suc, suc-add, zero-add}
+use native.Mathlib.Nat.{add-zero, add-suc, suc-add, zero-add, eq-or-lt-of-le, le-of-suc-le-suc}
 use native.Mathlib.Numerals.{add-one}
 use native.Mathlib.Omega.{arith}
 use lib.ListN.{length, getD, set, length-set}
-use lib.Seq.{getD-set-other, set-comm, ext-getD}
+use lib.Seq.{getD-set-same, getD-set-other, set-comm, ext-getD}
 use Rattle.base.specs.First.{found, found-false}
 use Rattle.window.specs.Stencil.{Stencil, gather, taps, put, scatter, applied, inTurn}
 
@@ -22,6 +22,9 @@ put-length false i v w = refl
 put-other : (b : Bool) (i v : ℕ) (w : List ℕ) (j d : ℕ) → (b ≡ true → j ≢ i) → getD (put b i v w) j d ≡ getD w j d
 put-other true i v w j d h = getD-set-other w i j v d (h refl)
 put-other false i v w j d h = refl
+
+put-same : (b : Bool) (i v : ℕ) (w : List ℕ) (d : ℕ) → b ≡ true → i < length w → getD (put b i v w) i d ≡ v
+put-same b i v w d e h = rw e (getD-set-same w i v d h)
 
 put-put : (b c : Bool) (i j x y : ℕ) (w : List ℕ) → (b ≡ true → c ≡ true → i ≢ j) → put b i x (put c j y w) ≡ put c j y (put b i x w)
 put-put true true i j x y w h = set-comm w j i y x (λ e. h refl refl (sym e))
@@ -56,6 +59,18 @@ module _ (stored : ℕ → Bool) (writes sample : ℕ → ℕ) where
   scatter-other (suc n) w j d h =
       put-other (stored n) (writes n) (sample n) (scatter stored writes sample n w) j d (h n (omega arith))
       ∙ scatter-other n w j d (λ k l. h k (omega arith))
+
+  -- a place that one tap alone is stored to holds that tap
+  pub scatter-at : (n : ℕ) (w : List ℕ) (k d : ℕ) → k < n → stored k ≡ true → writes k < length w → ((j : ℕ) → j < n → stored j ≡ true → writes k ≡ writes j → k ≡ j)
+      → getD (scatter stored writes sample n w) (writes k) d ≡ sample k
+  unfolding scatter
+  scatter-at zero w k d l t r h = absurd (omega arith)
+  scatter-at (suc n) w k d l t r h = ⊎-elim
+      (λ (e : k ≡ n). rw e (put-same (stored n) (writes n) (sample n) (scatter stored writes sample n w) d (rw e at t) (rw scatter-length (rw e at r))))
+      (λ (q : k < n).
+      put-other (stored n) (writes n) (sample n) (scatter stored writes sample n w) (writes k) d (λ u e. let same = h n (omega arith) u e in omega arith)
+      ∙ scatter-at n w k d q t r (λ j i. h j (omega arith)))
+      (eq-or-lt-of-le (le-of-suc-le-suc l))
 
   scatter-idle : (n : ℕ) (w : List ℕ) → ((k : ℕ) → k < n → stored k ≡ false) → scatter stored writes sample n w ≡ w
   unfolding scatter
@@ -130,6 +145,11 @@ applied-length a w = scatter-length (a .stored) (a .writes) (λ k. getD (a .line
 pub applied-other : (a : Stencil) (w : List ℕ) (j d : ℕ) → ((k : ℕ) → k < 16 → a .stored k ≡ true → j ≢ a .writes k) → getD (applied a w) j d ≡ getD w j d
 unfolding applied
 applied-other a w j d h = scatter-other (a .stored) (a .writes) (λ k. getD (a .line (taps a w)) k 0) 16 w j d h
+
+pub applied-at : (a : Stencil) (w : List ℕ) (k d : ℕ) → k < 16 → a .stored k ≡ true → a .writes k < length w → ((j : ℕ) → j < 16 → a .stored j ≡ true → a .writes k ≡ a .writes j → k ≡ j)
+    → getD (applied a w) (a .writes k) d ≡ getD (a .line (taps a w)) k 0
+unfolding applied
+applied-at a w k d l t r h = scatter-at (a .stored) (a .writes) (λ i. getD (a .line (taps a w)) i 0) 16 w k d l t r h
 
 -- it stores something
 abbrev pub live : Stencil → Bool

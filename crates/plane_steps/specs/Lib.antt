@@ -1,0 +1,4 @@
+pub mod PassNumber
+pub mod LineTaps
+pub mod PlaneLines
+pub mod PlaneSteps
