@@ -11,7 +11,10 @@ use lib.Dec.{T, eqb, ltb}
 use lib.IntN.{ℤ, pos, negsuc, natAbs}
 use borrow.Author.Tests.{lt-ltb, ne-eqb}
 use lib.ListN.{getD}
-use Rattle.cells.specs.Cell.{cellOf, widthLog2, heightLog2, txOf}
+use Rattle.base.specs.First.{found-false}
+use Rattle.blocks.specs.ModeInfoLaws.{block}
+use Rattle.cells.specs.Cell.{cellOf, widthLog2, heightLog2, txOf, Fields}
+use Rattle.cells.specs.CellLaws.{cell-fields}
 use Rattle.cells.specs.declared.LfCell.{LfCell}
 use Rattle.decisions.specs.Decision.{cellIndex, decisionBy, decision}
 use Rattle.decisions.specs.declared.Decision.{Decision}
@@ -28,7 +31,7 @@ use Rattle.pass_edges.specs.PassEdges.{sub, edgeCount, edgeLen}
 use Rattle.pass_edges.specs.PassEdgesStandard.{sub-standard, sub-small}
 use Rattle.positions.specs.Positions.{Placed, lumaX, lumaY}
 use Rattle.positions.specs.PositionsStandard.{x-standard, y-standard}
-use Rattle.row.specs.Row.{ModeInfo}
+use Rattle.row.specs.Row.{ModeInfo, badAt}
 use Rattle.row.specs.RowStandard.{Made, Standard, row-standard}
 use Rattle.section_8_8.specs.LoopFilterProcess as Std
 use Rattle.standard.specs.FrameLists.{InRow, placeIn, Holds, Entries}
@@ -93,3 +96,139 @@ module _ (f : Std.Frame) (small : Subsampled f) (plane row col : ℕ) (pass : Pa
       let rows : loopCell (s .suby) (lumaY s pass edge i) ≡ r = rw (y-standard f small plane row col edge i pass) (loop-row-standard f small plane row col edge i pass) in
       let cols : loopCell (s .subx) (lumaX s pass edge i) ≡ k = rw (x-standard f small plane row col edge i pass) (loop-col-standard f small plane row col edge i pass) in
       (record { from = omega arith; to = omega arith; rows = omega arith; cols = omega arith }, cell-below s _ _ at see)
+
+module _ (f : Std.Frame) (small : Subsampled f) (m : ModeInfo) (levels cells words : List ℕ) (row : ℕ)
+    (made : Made m levels (eqb (f .subsamplingX) 1) (eqb (f .subsamplingY) 1) (cellsFrom row (f .miCols) (f .miRows)) cells words) (holds : Holds f row m)
+    (plane col : ℕ) (at : Placed (superblockAt f plane row col)) (pass : Pass) (edge i : ℕ)
+    (on : edge < edgeCount (superblockAt f plane row col) pass) (along : i < edgeLen (superblockAt f plane row col) pass) where
+  abbrev here : Superblock
+  here = superblockAt f plane row col
+
+  abbrev number : ℕ
+  number = passNumber pass
+
+  abbrev loopRow : ℕ
+  loopRow = Std.loopRow f plane number row col edge i
+
+  abbrev loopCol : ℕ
+  loopCol = Std.loopCol f plane number row col edge i
+
+  abbrev cell : LfCell
+  cell = cellOf (getD words (placeIn f row loopRow loopCol) 0)
+
+  abbrev decided-here : Decision
+  decided-here = decision here pass (ltb 0 plane) words edge i
+
+  module _ (screen : onScreen here pass (lumaX here pass edge i) (lumaY here pass edge i) ≡ true) where
+    of-row : InRow f row loopRow loopCol
+    of-row = in-row f small plane row col pass edge i at on along screen .0
+
+    -- the fields of the word that is read are the standard's values of the frame's cell
+    cell-standard : Standard levels (f .subsamplingX) (f .subsamplingY) (f .miSize loopRow loopCol) (f .txSize loopRow loopCol) (getD (m .skips) (placeIn f row loopRow loopCol) 0) (f .refFrame loopRow loopCol) (f .yMode loopRow loopCol) (f .segmentId loopRow loopCol) cell
+    cell-standard =
+        let below = rw (index-standard f small plane row col pass edge i) at (in-row f small plane row col pass edge i at on along screen .1) in
+        rw (holds .sizes loopRow loopCol of-row, holds .txs loopRow loopCol of-row, holds .refs loopRow loopCol of-row, holds .modes loopRow loopCol of-row, holds .segments loopRow loopCol of-row)
+        (row-standard m levels (f .subsamplingX) (f .subsamplingY) _ cells words made (small .x) (small .y) (placeIn f row loopRow loopCol) below)
+
+    by-cell : decided-here ≡ decisionBy here pass (ltb 0 plane) edge i cell
+    unfolding decision
+    by-cell = rw (screen, index-standard f small plane row col pass edge i)
+
+    tx-is : txOf cell (ltb 0 plane) ≡ Std.txSz f plane number row col edge i
+    unfolding Std.txSz Std.MiSize
+    tx-is =
+        let luma : cell .tx ≡ f .txSize loopRow loopCol = cell-standard .luma-tx in
+        let chroma : cell .uvtx ≡ Std.uvTxSize (f .txSize loopRow loopCol) (f .miSize loopRow loopCol) (f .subsamplingX) (f .subsamplingY) = cell-standard .chroma-tx in
+        (λ t. cond (ltb 0 plane) (chroma t) (luma t)) ∙ tx-same plane _ _
+
+    wide-is : 2 ^ widthLog2 cell (sub here pass) ≡ Std.num8x8BlocksWide (Std.sbSize (Std.sub f plane number) (Std.MiSize f plane number row col edge i))
+    unfolding Std.MiSize
+    wide-is = rw (sub-standard f plane row col pass) (cell-standard .wide (Std.sub f plane number) (sub-small f small plane pass))
+
+    high-is : 2 ^ heightLog2 cell (sub here pass) ≡ Std.num8x8BlocksHigh (Std.sbSize (Std.sub f plane number) (Std.MiSize f plane number row col edge i))
+    unfolding Std.MiSize
+    high-is = rw (sub-standard f plane row col pass) (cell-standard .high (Std.sub f plane number) (sub-small f small plane pass))
+
+    coded-is : not (cell .skipped) ≡ (Std.isIntra (f .refFrame loopRow loopCol) || not (f .skip loopRow loopCol))
+    coded-is = rw (holds .skips loopRow loopCol of-row) (cell-standard .filtered)
+
+    screen-decided : decided-here .decided ≡ Std.applyFilter f plane number row col edge i
+    unfolding decisionBy
+    screen-decided =
+        ap (λ (d : Decision). d .decided) by-cell
+        ∙ (rw (
+          x-standard f small plane row col edge i pass,
+          y-standard f small plane row col edge i pass,
+          wide-is,
+          high-is,
+          tx-is,
+          on-screen-standard f small plane row col edge i pass,
+          block-edge-standard f small plane row col edge i pass,
+          tx-edge-standard f small plane row col edge i pass,
+        )
+        (apply-same _ _ _ (cell .skipped) (Std.isIntra (f .refFrame loopRow loopCol)) (f .skip loopRow loopCol) coded-is))
+        ∙ apply-standard f small plane row col edge i pass
+
+    screen-size : decided-here .size ≡ Std.filterSize f plane number row col edge i
+    unfolding decisionBy
+    screen-size =
+        let cols = at .col in
+        let rows = at .row in
+        ap (λ (d : Decision). d .size) by-cell
+        ∙ (rw (tx-is, x-standard f small plane row col edge i pass, y-standard f small plane row col edge i pass, edge-32-standard f small plane row col edge i pass)
+        (filter-size-standard f small plane row col edge i pass (omega arith) (omega arith)))
+
+    screen-level : (table : (segment ref mode : ℕ) → ℕ) → Entries f row levels table → decided-here .present ≡ true → decided-here .level ≡ Std.lvl f plane number row col edge i table
+    unfolding decisionBy Std.lvl
+    screen-level table entries present =
+        ap (λ (d : Decision). d .level) by-cell
+        ∙ level-same _ _ _ _ _ _ _ _ _ cell table cell-standard (λ ref. entries .entry loopRow loopCol ref of-row) (sym (ap (λ (d : Decision). d .present) by-cell) ∙ present)
+
+  -- step 14, on screen and off it
+  pub decided-standard : decided-here .decided ≡ Std.applyFilter f plane number row col edge i
+  decided-standard = cases (onScreen here pass (lumaX here pass edge i) (lumaY here pass edge i)) refl
+    where
+      off : onScreen here pass (lumaX here pass edge i) (lumaY here pass edge i) ≡ false → Std.onScreen f plane number row col edge i ≡ false
+      off e =
+          sym (on-screen-standard f small plane row col edge i pass)
+          ∙ (rw (x-standard f small plane row col edge i pass, y-standard f small plane row col edge i pass) at e)
+
+      none : onScreen here pass (lumaX here pass edge i) (lumaY here pass edge i) ≡ false → decided-here .decided ≡ Std.applyFilter f plane number row col edge i
+      unfolding decision Std.applyFilter
+      none e = rw (e, off e)
+
+      cases : (b : Bool) → onScreen here pass (lumaX here pass edge i) (lumaY here pass edge i) ≡ b → decided-here .decided ≡ Std.applyFilter f plane number row col edge i
+      cases true e = screen-decided e
+      cases false e = none e
+
+  -- what is decided is on screen
+  decided-seen : decided-here .decided ≡ true → onScreen here pass (lumaX here pass edge i) (lumaY here pass edge i) ≡ true
+  unfolding decision
+  decided-seen e = cases (onScreen here pass (lumaX here pass edge i) (lumaY here pass edge i)) refl
+    where
+      cases : (b : Bool) → onScreen here pass (lumaX here pass edge i) (lumaY here pass edge i) ≡ b → onScreen here pass (lumaX here pass edge i) (lumaY here pass edge i) ≡ true
+      cases true d = d
+      cases false d = absurd (subst T (sym (rw d at e)) tt)
+
+  module _ (decides : decided-here .decided ≡ true) where
+    -- step 15
+    pub size-standard : decided-here .size ≡ Std.filterSize f plane number row col edge i
+    size-standard = screen-size (decided-seen decides)
+
+    -- step 16, for a table whose entries the level table has
+    pub level-standard : (table : (segment ref mode : ℕ) → ℕ) → Entries f row levels table → decided-here .present ≡ true → decided-here .level ≡ Std.lvl f plane number row col edge i table
+    level-standard = screen-level (decided-seen decides)
+
+    -- the block and the transform that the page reads are of those that exist
+    pub block-known : (Std.MiSize f plane number row col edge i ≤ 12) × (Std.txSz f plane number row col edge i ≤ 3)
+    unfolding Std.MiSize
+    block-known =
+        let screen = decided-seen decides in
+        let below = rw (index-standard f small plane row col pass edge i) at (in-row f small plane row col pass edge i at on along screen .1) in
+        let b = block _ _ _ (found-false (badAt m) _ (made .blocks-fit) (placeIn f row loopRow loopCol) below) in
+        let c = cell-fields (getD words (placeIn f row loopRow loopCol) 0) in
+        (rw (holds .sizes loopRow loopCol (of-row screen)) (b .size), rw (← tx-is screen) (tx-small (ltb 0 plane) c))
+      where
+        tx-small : (chroma : Bool) → Fields cell → txOf cell chroma ≤ 3
+        tx-small true c = omega arith
+        tx-small false c = omega arith
