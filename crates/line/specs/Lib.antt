@@ -6,3 +6,4 @@ pub mod SampleFiltering
 pub mod SampleFilteringLaws
 pub mod Line
 pub mod LineLaws
+pub mod LineStandard

@@ -3,3 +3,4 @@ pub mod WideFilter
 pub mod WideSums
 pub mod WideFilterLaws
 pub mod SumBounds
+pub mod WideFilterStandard
