@@ -1,22 +1,22 @@
 -- Laws of the level table for its users: what stands at each place, how large it is, and where it is the standard's.
 -- Assumes nothing.
-use mathlib.Core.Path.{_≡_, refl, sym, _∙_}
-use mathlib.Core.Bool.{Bool, true, false, not, _&&_, and-false, true≢false}
-use mathlib.Core.Logic.{⊎-elim}
-use mathlib.Core.List.{List}
+use mathlib.Core.Path.{_≡_, refl, _∙_}
+use mathlib.Core.Bool.{Bool, true, false, not, _&&_}
 use Prim.Native.Nat.{ℕ, _/_, _%_, _≤_, _<_}
 use native.Mathlib.Nat.{zero-add}
 use native.Mathlib.Omega.{arith}
-use lib.Dec.{eqb, ltb}
-use lib.IntN.{ℤ, pos, negsuc}
+use lib.Dec.{eqb}
+use lib.IntN.{ℤ}
 use lib.ListN.{getD}
-use borrow.Author.Tests.{lt-ltb, le-ltb, eq-eqb, eqb-true}
+use borrow.Author.Tests.{le-ltb}
 use Rattle.base.specs.Filled.{filled, filled-at}
-use Rattle.base.specs.NotationLaws.{split, clip-below}
+use Rattle.base.specs.NotationLaws.{clip-below}
 use Rattle.base.specs.Outcome.{held}
 use Rattle.frame_header.specs.Params.{segFeatureActive}
 use Rattle.level_lookup.specs.LevelLookup.{levelAt, zeroLevels}
-use Rattle.levels.specs.Levels.{clippedLevel, lvlSeg, intraLvl, interLvl, standardLvl, entryLvl, segmentLvl, placeLvl, frameInit}
+use Rattle.section_8_8.specs.LoopFilterProcess as Std
+use Rattle.levels.specs.Levels.{clippedLevel, lvlSeg, intraLvl, interLvl, entryLvl, segmentLvl, placeLvl, frameInit}
+use Rattle.levels.specs.LevelsStandard.{headerOf, entry-standard}
 use Rattle.frame_header.specs.declared.LoopFilterParams.{LoopFilterParams}
 use Rattle.frame_header.specs.declared.SegmentationParams.{SegmentationParams}
 use Rattle.frame_header.specs.declared.Deltas.{Deltas}
@@ -44,16 +44,6 @@ entry-small lf deltas lvl ref mode h =
     set true false u e f g = rw (e, f) (level-small _)
     set false s true e f g = rw (e, g) (omega arith)
     set false s false e f g = rw (e, g) h
-
-standard-entry : (lf : LoopFilterParams) (deltas : Deltas) (lvl ref mode : ℕ) → (lf .«delta_update» ≡ true → lf .«delta_enabled» ≡ true) → (ref ≡ 0 → mode ≡ 0) → entryLvl lf deltas lvl ref mode ≡ standardLvl lf deltas lvl ref mode
-unfolding entryLvl standardLvl
-standard-entry lf deltas lvl ref mode coded intra = cases (lf .«delta_enabled») (lf .«delta_update») (eqb ref 0) refl refl refl
-  where
-    cases : (t u s : Bool) → lf .«delta_enabled» ≡ t → lf .«delta_update» ≡ u → eqb ref 0 ≡ s → entryLvl lf deltas lvl ref mode ≡ standardLvl lf deltas lvl ref mode
-    cases true u true e f g = rw (e, g, eq-eqb mode 0 (intra (eqb-true ref 0 g)))
-    cases true u false e f g = rw (e, g)
-    cases false false s e f g = rw (e, f)
-    cases false true s e f g = rw (e, f) (absurd (true≢false (sym (coded f) ∙ e)))
 
 -- where an entry stands says whose it is
 placed : (segment ref mode : ℕ) (f : ℕ → ℕ → ℕ → ℕ) → ref < 4 → mode < 2 → let k = levelAt segment ref mode in f (k / 8) (k % 8 / 2) (k % 2) ≡ f segment ref mode
@@ -89,6 +79,6 @@ module _ (lf : LoopFilterParams) (seg : SegmentationParams) (deltas : Deltas) (t
   table-small k h = rw (at k h) (entry-small lf deltas (lvlSeg lf seg (k / 8)) (k % 8 / 2) (k % 2) (segment-small lf seg (k / 8) taken))
 
   -- a header updates deltas only while they are enabled, and an intra block has mode type 0: then the entry is the standard's
-  pub table-standard : (segment ref mode : ℕ) → segment < 8 → ref < 4 → mode < 2 → (lf .«delta_update» ≡ true → lf .«delta_enabled» ≡ true) → (ref ≡ 0 → mode ≡ 0) → getD (held (frameInit lf seg deltas) zeroLevels) (levelAt segment ref mode) 0 ≡ standardLvl lf deltas (lvlSeg lf seg segment) ref mode
+  pub table-standard : (segment ref mode : ℕ) → segment < 8 → ref < 4 → mode < 2 → (lf .«delta_update» ≡ true → lf .«delta_enabled» ≡ true) → (ref ≡ 0 → mode ≡ 0) → getD (held (frameInit lf seg deltas) zeroLevels) (levelAt segment ref mode) 0 ≡ Std.LvlLookup (headerOf lf seg deltas) segment ref mode
   table-standard segment ref mode p q r coded intra =
-      table-entry segment ref mode p q r ∙ standard-entry lf deltas (lvlSeg lf seg segment) ref mode coded intra
+      table-entry segment ref mode p q r ∙ entry-standard lf seg deltas segment ref mode coded intra

@@ -48,10 +48,6 @@ interLvl lf deltas lvl ref mode =
 abbrev pub deltaLvl : LoopFilterParams → Deltas → ℕ → ℕ → ℕ → ℕ
 deltaLvl lf deltas lvl ref mode = cond (eqb ref 0) (intraLvl lf deltas lvl) (interLvl lf deltas lvl ref mode)
 
--- the standard's entry of a segment whose level is lvl. Intra blocks have mode type 0, and the standard has one entry for them.
-unfoldable pub standardLvl : LoopFilterParams → Deltas → ℕ → ℕ → ℕ → ℕ
-standardLvl lf deltas lvl ref mode = cond (lf .«delta_enabled») (deltaLvl lf deltas lvl ref mode) lvl
-
 -- ---- document 01's table
 
 -- document 01's entry, which follows the Rust. Step 3 tests delta_update, and what it leaves is 0; step 4 sets all entries
