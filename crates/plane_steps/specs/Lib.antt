@@ -1,4 +1,2 @@
-pub mod PassNumber
-pub mod LineTaps
 pub mod PlaneLines
 pub mod PlaneSteps

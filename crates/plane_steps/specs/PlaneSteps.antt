@@ -10,18 +10,19 @@ use native.Mathlib.Decide.{decLt}
 use native.Mathlib.Nat.{zero-add}
 use native.Mathlib.Omega.{arith}
 use lib.ListN.{length, getD}
+use Rattle.geometry.specs.FrameStandard.{passNumber}
 use Rattle.geometry.specs.declared.Pass.{Pass}
+use Rattle.line.specs.LineStandard.{sample-filtering-standard, beyond-kept}
 use Rattle.line.specs.SampleFiltering.{sampleFiltering}
 use Rattle.line.specs.SampleFilteringLaws.{changes, reads, filters-kept, filters-agree}
 use Rattle.section_8_8.specs.LoopFilterProcess as Std
 use Rattle.wide_filter.specs.Taps.{tap, Agree}
+use Rattle.wide_filter.specs.WideFilterStandard.{tapsOf}
 use Rattle.window.specs.Stencil.{Stencil, taps, applied}
 use Rattle.window.specs.StencilLaws.{gather-at, gather-length, applied-at, applied-other}
 use Rattle.window.specs.Window.{place, clamp, tapX, tapY, tapRead, tapStored, tapWritten, stencil}
 use Rattle.window.specs.WindowLaws.{Lent, Inside, Tap, place-lent, place-unique, among-yes, tap-in, tap-inside}
 use Rattle.window.specs.declared.WindowShape.{WindowShape}
-use Rattle.plane_steps.specs.LineTaps.{tapsOf}
-use Rattle.plane_steps.specs.PassNumber.{passNumber}
 use Rattle.plane_steps.specs.PlaneLines.{IsTap, Which, one, none, which, same-tap, stored-near, stored-far, line-near}
 
 -- the window's samples are those of a plane
@@ -105,37 +106,33 @@ module _ (g : WindowShape) (pass : Pass) (x y : ℕ) (line : List ℕ → List �
 
 -- ---- the step
 
-module _
-    (sample-filtering-standard : (B size limit blimit thresh : ℕ) (l : Std.Line) → sampleFiltering B size limit blimit thresh (tapsOf l) ≡ tapsOf (Std.sampleFiltering B size limit blimit thresh l))
-    (beyond-kept : (B size limit blimit thresh : ℕ) (l : Std.Line) (k : ℕ) → 7 ≤ k → (Std.sampleFiltering B size limit blimit thresh l .p k ≡ l .p k) × (Std.sampleFiltering B size limit blimit thresh l .q k ≡ l .q k))
+pub step-standard : (g : WindowShape) (pass : Pass) (x y B size limit blimit thresh : ℕ) (samples : List ℕ) (s : Std.Plane)
+    → Lent g (length samples) → Shows g samples s → Unclamped g pass x y (reads size)
+    → Shows g (applied (stencil g pass x y true (sampleFiltering B size limit blimit thresh)) samples)
+    (Std.stored (passNumber pass) x y (Std.sampleFiltering B size limit blimit thresh (Std.lineAt (passNumber pass) x y s)) s)
+step-standard g pass x y B size limit blimit thresh samples s lent shown clear = record { at = λ u v i. cases u v i (which pass x y u v) }
   where
-    pub step-standard : (g : WindowShape) (pass : Pass) (x y B size limit blimit thresh : ℕ) (samples : List ℕ) (s : Std.Plane)
-        → Lent g (length samples) → Shows g samples s → Unclamped g pass x y (reads size)
-        → Shows g (applied (stencil g pass x y true (sampleFiltering B size limit blimit thresh)) samples)
-        (Std.stored (passNumber pass) x y (Std.sampleFiltering B size limit blimit thresh (Std.lineAt (passNumber pass) x y s)) s)
-    step-standard g pass x y B size limit blimit thresh samples s lent shown clear = record { at = λ u v i. cases u v i (which pass x y u v) }
-      where
-        here : Stencil
-        here = stencil g pass x y true (sampleFiltering B size limit blimit thresh)
+    here : Stencil
+    here = stencil g pass x y true (sampleFiltering B size limit blimit thresh)
 
-        l : Std.Line
-        l = Std.lineAt (passNumber pass) x y s
+    l : Std.Line
+    l = Std.lineAt (passNumber pass) x y s
 
-        after : Std.Line
-        after = Std.sampleFiltering B size limit blimit thresh l
+    after : Std.Line
+    after = Std.sampleFiltering B size limit blimit thresh l
 
-        cases : (u v : ℕ) → Inside g u v → Which pass x y u v → getD (applied here samples) (place g u v) 0 ≡ Std.stored (passNumber pass) x y after s u v
-        cases u v i (none h) =
-            applied-other here samples (place g u v) 0 (λ k n d e. h k n (stored-is g (lent .rows) pass x y k u v i d e))
-            ∙ shown .at u v i
-            ∙ sym (stored-far pass x y u v h after s (record { p = λ k n. beyond-kept B size limit blimit thresh l k n .0; q = λ k n. beyond-kept B size limit blimit thresh l k n .1 }))
-        cases u v i (one k h t) =
-            let w = written-at g pass x y k u v i t in
-            let room : tapWritten g pass x y k < length samples = rw w (place-lent g (length samples) u v lent i) in
-            let agree = taps-shown g pass x y (here .line) samples s shown (reads size) (reads-eight size) clear in
-            let same = tap-shown g pass x y (here .line) samples s shown k u v h i t in
-            ap (λ (j : ℕ). getD (applied here samples) j 0) (sym w)
-            ∙ applied-at here samples k 0 h (is-stored g pass x y k u v i t) room (λ j n d e. same-tap pass x y k j u v t (stored-is g (lent .rows) pass x y j u v i d (sym w ∙ e)))
-            ∙ filters-same B size limit blimit thresh (taps here samples) (tapsOf l) (gather-length (here .reads) 0 16 samples) agree k same
-            ∙ ap (λ (r : List ℕ). tap r k) (sample-filtering-standard B size limit blimit thresh l)
-            ∙ sym (stored-near pass x y k u v h t after s)
+    cases : (u v : ℕ) → Inside g u v → Which pass x y u v → getD (applied here samples) (place g u v) 0 ≡ Std.stored (passNumber pass) x y after s u v
+    cases u v i (none h) =
+        applied-other here samples (place g u v) 0 (λ k n d e. h k n (stored-is g (lent .rows) pass x y k u v i d e))
+        ∙ shown .at u v i
+        ∙ sym (stored-far pass x y u v h after s (record { p = λ k n. beyond-kept B size limit blimit thresh l k n .0; q = λ k n. beyond-kept B size limit blimit thresh l k n .1 }))
+    cases u v i (one k h t) =
+        let w = written-at g pass x y k u v i t in
+        let room : tapWritten g pass x y k < length samples = rw w (place-lent g (length samples) u v lent i) in
+        let agree = taps-shown g pass x y (here .line) samples s shown (reads size) (reads-eight size) clear in
+        let same = tap-shown g pass x y (here .line) samples s shown k u v h i t in
+        ap (λ (j : ℕ). getD (applied here samples) j 0) (sym w)
+        ∙ applied-at here samples k 0 h (is-stored g pass x y k u v i t) room (λ j n d e. same-tap pass x y k j u v t (stored-is g (lent .rows) pass x y j u v i d (sym w ∙ e)))
+        ∙ filters-same B size limit blimit thresh (taps here samples) (tapsOf l) (gather-length (here .reads) 0 16 samples) agree k same
+        ∙ ap (λ (r : List ℕ). tap r k) (sample-filtering-standard B size limit blimit thresh l)
+        ∙ sym (stored-near pass x y k u v h t after s)
