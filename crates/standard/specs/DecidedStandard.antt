@@ -186,6 +186,7 @@ module _ (f : Std.Frame) (small : Subsampled f) (m : ModeInfo) (levels cells wor
 
   -- step 14, on screen and off it
   pub decided-standard : decided-here .decided ≡ Std.applyFilter f plane number row col edge i
+  unfolding decision Std.applyFilter
   decided-standard = cases (onScreen here pass (lumaX here pass edge i) (lumaY here pass edge i)) refl
     where
       off : onScreen here pass (lumaX here pass edge i) (lumaY here pass edge i) ≡ false → Std.onScreen f plane number row col edge i ≡ false
@@ -194,7 +195,6 @@ module _ (f : Std.Frame) (small : Subsampled f) (m : ModeInfo) (levels cells wor
           ∙ (rw (x-standard f small plane row col edge i pass, y-standard f small plane row col edge i pass) at e)
 
       none : onScreen here pass (lumaX here pass edge i) (lumaY here pass edge i) ≡ false → decided-here .decided ≡ Std.applyFilter f plane number row col edge i
-      unfolding decision Std.applyFilter
       none e = rw (e, off e)
 
       cases : (b : Bool) → onScreen here pass (lumaX here pass edge i) (lumaY here pass edge i) ≡ b → decided-here .decided ≡ Std.applyFilter f plane number row col edge i
