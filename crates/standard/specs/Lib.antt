@@ -1,2 +1,3 @@
 pub mod FrameLists
 pub mod DecidedStandard
+pub mod PassStandard
