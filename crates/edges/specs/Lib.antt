@@ -1,1 +1,2 @@
 pub mod Edge
+pub mod EdgeStandard
