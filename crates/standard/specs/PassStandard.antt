@@ -14,7 +14,7 @@ use borrow.Author.Tests.{not-false}
 use Rattle.base.specs.First.{found, found-false}
 use Rattle.base.specs.Notation.{_>>_}
 use Rattle.base.specs.Outcome.{accepted}
-use Rattle.decided.specs.Decided.{Position, position, Setting, setting, decisionAt, isDecided, decided, settingOf}
+use Rattle.decided.specs.Decided.{Position, position, Setting, setting, decisionAt, isDecided, decided, superblockOf, settingOf}
 use Rattle.decisions.specs.Decision.{decision, withoutLevel, levelless}
 use Rattle.decisions.specs.DecisionLaws.{decision-size}
 use Rattle.decisions.specs.LevellessLaws.{levelless-at}
@@ -23,9 +23,10 @@ use Rattle.geometry.specs.Frame.{cellsFrom}
 use Rattle.geometry.specs.FrameStandard.{superblockAt, passNumber, Subsampled, sub-x-small, sub-y-small}
 use Rattle.geometry.specs.declared.Pass.{Pass}
 use Rattle.geometry.specs.declared.Pass.the-variants.{Vertical, Horizontal}
+use Rattle.geometry.specs.declared.Superblock.{Superblock}
 use Rattle.line.specs.SampleFiltering.{sampleFiltering}
 use Rattle.line.specs.SampleFilteringLaws.{reads}
-use Rattle.order.specs.Grid.{grid, grid-mem, select, select-same, strip, strips, strips-split}
+use Rattle.order.specs.Grid.{grid, grid-mem, select, select-mem, select-passes, select-same, strip, strips-split}
 use Rattle.order.specs.Order.{run}
 use Rattle.order.specs.Walk.{run-append, run-strip-next, run-beside}
 use Rattle.pass.specs.Pass.{lineOf, step, superblockLoopFilter, superblockLoopFilterCells}
@@ -188,7 +189,7 @@ module _ (f : Std.Frame) (small : Subsampled f) (m : ModeInfo) (levels cells wor
     module _ (g : WindowShape) (whole : Whole f plane g) where
       in-step : isDecided t pass p ≡ true → ltb 0 lvl ≡ true → (samples : List ℕ) (s : Std.Plane) → Lent g (length samples) → Shows g samples s
           → Shows g (step g t pass p samples) (Std.filteredAt f table plane number row col (p .edge) (p .i) s)
-      unfolding Std.filteredAt
+      unfolding Std.filteredAt isDecided
       in-step e l samples s lent shown =
           let c = on-grid p k in
           let known = block-known f small m levels cells words row made holds plane col at pass (p .edge) (p .i) (c .0) (c .1) (decided-e e) in
@@ -224,3 +225,95 @@ module _ (f : Std.Frame) (small : Subsampled f) (m : ModeInfo) (levels cells wor
           cases false b e l = rw (← idle (rw (sym decides ∙ e)) s) shown
           cases true true e l = in-step e l samples s lent shown
           cases true false e l = rw (step-is e g samples, l, stencil-idle g pass x y false _ samples refl, ← idle (rw (sym decides ∙ e, l)) s) shown
+
+  -- ---- all positions
+
+  abbrev filtered : Position → Bool
+  filtered p = Std.applyFilter f plane number row col (p .edge) (p .i)
+
+  -- the decided positions are those that step 14 filters, edge and i rising
+  same-positions : decided t pass ≡ select filtered (grid position (16 >> Std.sub f plane number) (Std.edgeLen f plane number))
+  unfolding decided
+  same-positions =
+      select-same (isDecided t pass) filtered positions decides
+      ∙ (λ j. select filtered (grid position (edge-count-standard f small plane row col pass j) (edge-len-standard f small plane row col pass j)))
+
+  of-decided : (p : Position) → List·Memᴰ p (decided t pass) → List·Memᴰ p positions × (isDecided t pass p ≡ true)
+  unfolding decided
+  of-decided p k = (select-mem (isDecided t pass) positions k, T-true _ (select-passes (isDecided t pass) positions k))
+    where
+      T-true : (b : Bool) → T b → b ≡ true
+      T-true true h = refl
+      T-true false h = absurd h
+
+  step-length : (g : WindowShape) (p : Position) (samples : List ℕ) → length (cond (isDecided t pass p) (step g t pass p samples) samples) ≡ length samples
+  unfolding step
+  step-length g p samples = cases (isDecided t pass p)
+    where
+      cases : (b : Bool) → length (cond b (step g t pass p samples) samples) ≡ length samples
+      cases true = applied-length _ samples
+      cases false = refl
+
+  same-samples : (g : WindowShape) → Whole f plane g → (samples : List ℕ) (s : Std.Plane) → Lent g (length samples) → Shows g samples s
+      → Shows g (superblockLoopFilter g t pass samples) (Std.superblockPass f table plane number row col s)
+  unfolding superblockLoopFilter decided Std.superblockPass
+  same-samples g whole samples s lent shown =
+      rw (← edge-count-standard f small plane row col pass, ← edge-len-standard f small plane row col pass, for-grid (Std.filteredAt f table plane number row col) (edgeCount (t .superblock) pass) (edgeLen (t .superblock) pass) s)
+      (run-beside (λ u v. Lent g (length u) × Shows g u v) (step g t pass) (isDecided t pass) (at-position (Std.filteredAt f table plane number row col)) positions
+      (λ p k u v r. (subst (Lent g) (sym (step-length g p u)) (r .0), position-standard p k g whole u v (r .0) (r .1)))
+      samples s (lent, shown) .1)
+
+-- ---- THE TIE
+
+-- The positions of a pass, their sizes and levels are those of steps 1 to 16. Where the window is the whole plane, its samples become
+-- those that the standard's pass leaves; at the border of any other window document 01's rule stands.
+pub record StandardPass (f : Std.Frame) (table : (segment ref mode : ℕ) → ℕ) (plane number row col : ℕ) (g : WindowShape) (t : Setting) (pass : Pass) (samples result : List ℕ) : Type 0 where
+  pub positions-are : decided t pass ≡ select (λ p. Std.applyFilter f plane number row col (p .edge) (p .i)) (grid position (16 >> Std.sub f plane number) (Std.edgeLen f plane number))
+  pub size-is : (p : Position) → List·Memᴰ p (decided t pass) → decisionAt t pass p .size ≡ Std.filterSize f plane number row col (p .edge) (p .i)
+  pub level-is : (p : Position) → List·Memᴰ p (decided t pass) → decisionAt t pass p .level ≡ Std.lvl f plane number row col (p .edge) (p .i) table
+  pub samples-are : Whole f plane g → (s : Std.Plane) → Shows g samples s → Shows g result (Std.superblockPass f table plane number row col s)
+
+-- plane 0 counts as not subsampled
+same-superblock : (f : Std.Frame) (plane row col : ℕ) → plane ≤ 2 → superblockAt f plane row col ≡ superblockOf (f .subsamplingX) (f .subsamplingY) (f .miCols) (f .miRows) row col plane
+same-superblock f zero row col h = refl
+same-superblock f (suc zero) row col h = refl
+same-superblock f (suc (suc zero)) row col h = refl
+same-superblock f (suc (suc (suc plane))) row col h = absurd (omega arith)
+
+-- For a frame whose mode info the lists hold and a level table that has the standard's entries: where the row makes words of the
+-- lists, and the pass over those words is accepted, it is the standard's.
+pub pass-standard : (f : Std.Frame) (table : (segment ref mode : ℕ) → ℕ) (m : ModeInfo) (levels : List ℕ) (g : WindowShape) (row col plane pass : ℕ) (cells words samples result : List ℕ)
+    → Holds f row m → Entries f row levels table
+    → rowOf m levels (f .sharpness) (f .bitDepth) (f .subsamplingX) (f .subsamplingY) (f .miCols) (f .miRows) row cells ≡ accepted words
+    → superblockLoopFilterCells g (f .sharpness) (f .bitDepth) (f .subsamplingX) (f .subsamplingY) (f .miCols) (f .miRows) row col plane pass words samples ≡ accepted result
+    → StandardPass f table plane pass row col g (settingOf (f .sharpness) (f .bitDepth) (f .subsamplingX) (f .subsamplingY) (f .miCols) (f .miRows) row col plane words) (passOf pass) samples result
+pass-standard f table m levels g row col plane pass cells words samples result holds entries made e =
+    let r = ran g (f .sharpness) (f .bitDepth) (f .subsamplingX) (f .subsamplingY) (f .miCols) (f .miRows) row col plane pass words samples result e in
+    let flags = r .numbers .flags in
+    let w = row-made m levels (f .sharpness) (f .bitDepth) (f .subsamplingX) (f .subsamplingY) (f .miCols) (f .miRows) row cells words made in
+    subst (λ (n : ℕ). StandardPass f table plane n row col g (over (superblockOf (f .subsamplingX) (f .subsamplingY) (f .miCols) (f .miRows) row col plane)) (passOf pass) samples result)
+    (pass-number pass (r .numbers .pass-known))
+    (by (superblockOf (f .subsamplingX) (f .subsamplingY) (f .miCols) (f .miRows) row col plane) (same-superblock f plane row col (r .numbers .plane-known)) (record { x = flags .0; y = flags .1 }) w (r .numbers .placed-at _ _) (r .lists .levels-present) (r .lists .window-lent) (r .result-is))
+  where
+    over : Superblock → Setting
+    over s = setting s (ltb 0 plane) (f .sharpness) (f .bitDepth) words
+
+    by : (s : Superblock) → superblockAt f plane row col ≡ s → Subsampled f → Made m levels (eqb (f .subsamplingX) 1) (eqb (f .subsamplingY) 1) (cellsFrom row (f .miCols) (f .miRows)) cells words
+        → Placed (superblockAt f plane row col)
+        → found (levelless s (passOf pass) (ltb 0 plane) words) (64 * edgeCount s (passOf pass)) ≡ false
+        → Lent g (length samples) → result ≡ superblockLoopFilter g (over s) (passOf pass) samples
+        → StandardPass f table plane (passNumber (passOf pass)) row col g (over s) (passOf pass) samples result
+    by s q small w at present lent is =
+        let none = subst (λ (u : Superblock). found (levelless u (passOf pass) (ltb 0 plane) words) (64 * edgeCount u (passOf pass)) ≡ false) (sym q) present in
+        let ours = is ∙ ap (λ (u : Superblock). superblockLoopFilter g (over u) (passOf pass) samples) (sym q) in
+        subst (λ (u : Superblock). StandardPass f table plane (passNumber (passOf pass)) row col g (over u) (passOf pass) samples result) q
+        (record {
+          positions-are = same-positions f small m levels cells words row w holds table entries plane col at (passOf pass) none;
+          size-is = λ p k.
+              let d = of-decided f small m levels cells words row w holds table entries plane col at (passOf pass) none p k in
+              size-is f small m levels cells words row w holds table entries plane col at (passOf pass) none p (d .0) (d .1);
+          level-is = λ p k.
+              let d = of-decided f small m levels cells words row w holds table entries plane col at (passOf pass) none p k in
+              level-is f small m levels cells words row w holds table entries plane col at (passOf pass) none p (d .0) (d .1);
+          samples-are = λ whole s shown. rw ours (same-samples f small m levels cells words row w holds table entries plane col at (passOf pass) none g whole samples s lent shown);
+        })
