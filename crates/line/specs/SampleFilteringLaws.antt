@@ -1,10 +1,11 @@
 -- Laws of the sample filtering process, for its users.
 -- Assumes nothing.
-use mathlib.Core.Path.{_≡_, refl, subst}
+use mathlib.Core.Path.{_≡_, refl, sym, _∙_, subst}
 use mathlib.Core.Bool.{Bool, true, false, cond, not, _||_}
 use mathlib.Core.List.{List}
 use mathlib.Core.Logic.{_⊎_, ⊎-elim, inl, inr}
 use Prim.Native.Nat.{ℕ, zero, suc, _+_, _^_, _≤_, _<_}
+use native.Mathlib.Decide.{decLt}
 use native.Mathlib.Omega.{arith}
 use lib.Dec.{T, eqb}
 use lib.ListN.{length}
@@ -168,3 +169,27 @@ filters-agree B size limit blimit thresh t u e a =
     cases true false g h false o s p q = narrow
     cases true true g h false true s p q = six
     cases true true g h false false s p q = rw (s (from-2 size p q)) (last (from-2 size p q) h)
+
+-- ---- one tap
+
+changes-read : (size : ℕ) → changes size ≤ reads size
+changes-read zero = omega arith
+changes-read (suc zero) = omega arith
+changes-read (suc (suc n)) = omega arith
+
+pub reads-few : (size : ℕ) → reads size ≤ 8
+reads-few zero = omega arith
+reads-few (suc zero) = omega arith
+reads-few (suc (suc n)) = omega arith
+
+-- a tap that two lines share is the same after, where they agree on the taps that the size reads
+pub filters-same : (B size limit blimit thresh : ℕ) (t u : List ℕ) → length t ≡ length u → Agree (reads size) t u → (k : ℕ) → tap t k ≡ tap u k → tap (sampleFiltering B size limit blimit thresh t) k ≡ tap (sampleFiltering B size limit blimit thresh u) k
+filters-same B size limit blimit thresh t u e a k same = cases (decLt (k + reads size) 8) (decLt k (8 + reads size))
+  where
+    kept : (k + changes size < 8) ⊎ (8 + changes size ≤ k) → tap (sampleFiltering B size limit blimit thresh t) k ≡ tap (sampleFiltering B size limit blimit thresh u) k
+    kept h = filters-kept B size limit blimit thresh t k h ∙ same ∙ sym (filters-kept B size limit blimit thresh u k h)
+
+    cases : Dec (k + reads size < 8) → Dec (k < 8 + reads size) → tap (sampleFiltering B size limit blimit thresh t) k ≡ tap (sampleFiltering B size limit blimit thresh u) k
+    cases (yes p) q = kept (inl (omega (arith, changes-read size)))
+    cases (no p) (no q) = kept (inr (omega (arith, changes-read size)))
+    cases (no p) (yes q) = filters-agree B size limit blimit thresh t u e a .same k (omega arith) q

@@ -7,6 +7,7 @@ use native.Mathlib.Omega.{arith}
 use lib.Dec.{T, eqb, ltb}
 use borrow.Author.Tests.{eqb-true, eq-eqb, ltb-true, ltb-false, lt-ltb, le-ltb}
 use Rattle.base.specs.First.{found, found-false, first-is}
+use Rattle.base.specs.Tests.{both}
 use Rattle.geometry.specs.FrameStandard.{passNumber}
 use Rattle.geometry.specs.declared.Pass.{Pass}
 use Rattle.geometry.specs.declared.Pass.the-variants.{Vertical, Horizontal}
@@ -14,7 +15,6 @@ use Rattle.section_8_8.specs.LoopFilterProcess as Std
 use Rattle.wide_filter.specs.Taps.{tap}
 use Rattle.wide_filter.specs.WideFilterStandard.{tapsOf, tap-p, tap-q}
 use Rattle.window.specs.Window.{tapX, tapY}
-use Rattle.window.specs.WindowLaws.{both}
 
 -- tap k of the line whose q0 is at (x, y) is the sample (u, v)
 pub record IsTap (pass : Pass) (x y k u v : ℕ) : Type 0 where

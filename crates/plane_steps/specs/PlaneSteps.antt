@@ -4,9 +4,7 @@
 use mathlib.Core.Path.{_≡_, sym, ap, _∙_}
 use mathlib.Core.Bool.{true, _&&_}
 use mathlib.Core.List.{List}
-use mathlib.Core.Logic.{_⊎_, inl, inr}
-use Prim.Native.Nat.{ℕ, zero, suc, _+_, _-_, _≤_, _<_}
-use native.Mathlib.Decide.{decLt}
+use Prim.Native.Nat.{ℕ, _+_, _-_, _≤_, _<_}
 use native.Mathlib.Nat.{zero-add}
 use native.Mathlib.Omega.{arith}
 use lib.ListN.{length, getD}
@@ -14,7 +12,7 @@ use Rattle.geometry.specs.FrameStandard.{passNumber}
 use Rattle.geometry.specs.declared.Pass.{Pass}
 use Rattle.line.specs.LineStandard.{sample-filtering-standard, beyond-kept}
 use Rattle.line.specs.SampleFiltering.{sampleFiltering}
-use Rattle.line.specs.SampleFilteringLaws.{changes, reads, filters-kept, filters-agree}
+use Rattle.line.specs.SampleFilteringLaws.{reads, reads-few, filters-same}
 use Rattle.section_8_8.specs.LoopFilterProcess as Std
 use Rattle.wide_filter.specs.Taps.{tap, Agree}
 use Rattle.wide_filter.specs.WideFilterStandard.{tapsOf}
@@ -32,33 +30,6 @@ pub record Shows (g : WindowShape) (samples : List ℕ) (s : Std.Plane) : Type 0
 -- r taps on each side of the edge are in the window, so that no read of them is clamped
 pub record Unclamped (g : WindowShape) (pass : Pass) (x y r : ℕ) : Type 0 where
   pub inside : (k : ℕ) → 8 ≤ k + r → k < 8 + r → Tap g (tapX pass x k) (tapY pass y k)
-
--- ---- the line: a tap that is the same before is the same after, where the taps that the size reads are
-
-changes-read : (size : ℕ) → changes size ≤ reads size
-changes-read zero = omega arith
-changes-read (suc zero) = omega arith
-changes-read (suc (suc n)) = omega arith
-
-reads-eight : (size : ℕ) → reads size ≤ 8
-reads-eight zero = omega arith
-reads-eight (suc zero) = omega arith
-reads-eight (suc (suc n)) = omega arith
-
-module _ (B size limit blimit thresh : ℕ) where
-  abbrev filtered : List ℕ → List ℕ
-  filtered = sampleFiltering B size limit blimit thresh
-
-  filters-same : (t u : List ℕ) → length t ≡ length u → Agree (reads size) t u → (k : ℕ) → tap t k ≡ tap u k → tap (filtered t) k ≡ tap (filtered u) k
-  filters-same t u e a k same = cases (decLt (k + reads size) 8) (decLt k (8 + reads size))
-    where
-      kept : (k + changes size < 8) ⊎ (8 + changes size ≤ k) → tap (filtered t) k ≡ tap (filtered u) k
-      kept h = filters-kept B size limit blimit thresh t k h ∙ same ∙ sym (filters-kept B size limit blimit thresh u k h)
-
-      cases : Dec (k + reads size < 8) → Dec (k < 8 + reads size) → tap (filtered t) k ≡ tap (filtered u) k
-      cases (yes p) q = kept (inl (omega (arith, changes-read size)))
-      cases (no p) (no q) = kept (inr (omega (arith, changes-read size)))
-      cases (no p) (yes q) = filters-agree B size limit blimit thresh t u e a .same k (omega arith) q
 
 -- ---- a tap in the window
 
@@ -129,7 +100,7 @@ step-standard g pass x y B size limit blimit thresh samples s lent shown clear =
     cases u v i (one k h t) =
         let w = written-at g pass x y k u v i t in
         let room : tapWritten g pass x y k < length samples = rw w (place-lent g (length samples) u v lent i) in
-        let agree = taps-shown g pass x y (here .line) samples s shown (reads size) (reads-eight size) clear in
+        let agree = taps-shown g pass x y (here .line) samples s shown (reads size) (reads-few size) clear in
         let same = tap-shown g pass x y (here .line) samples s shown k u v h i t in
         ap (λ (j : ℕ). getD (applied here samples) j 0) (sym w)
         ∙ applied-at here samples k 0 h (is-stored g pass x y k u v i t) room (λ j n d e. same-tap pass x y k j u v t (stored-is g (lent .rows) pass x y j u v i d (sym w ∙ e)))

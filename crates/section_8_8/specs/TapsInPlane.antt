@@ -10,7 +10,7 @@ use lib.ListN.{getD}
 use borrow.Author.Tests.{eqb-true, eqb-false, leb-false, ltb-false, not-true, not-false, eq-eqb}
 use Rattle.base.specs.First.{found, found-false}
 use Rattle.base.specs.Notation.{_<<_, _>>_}
-use Rattle.base.specs.Tests.{neither}
+use Rattle.base.specs.Tests.{neither, either, both}
 use Rattle.section_8_8.specs.LoopFilterProcess.{Frame, subX, subY, num8x8BlocksWide, num8x8BlocksHigh, sbSize, isIntra, x, y, loopCol, loopRow, MiSize, txSz, isBlockEdge, isTxEdge, is32Edge, onScreen, applyFilter, filterSize}
 
 -- the taps of each side that a filter size reads: p3 to q3, or p7 to q7
@@ -147,14 +147,6 @@ pub record InPlane (f : Frame) (plane pass px py r : ℕ) : Type 0 where
   pub below : py + pass * r ≤ planeHeight f plane
   pub in-x : px < planeWidth f plane
   pub in-y : py < planeHeight f plane
-
-both : (a b : Bool) → (a && b) ≡ true → (a ≡ true) × (b ≡ true)
-both true b e = (refl, e)
-both false b e = absurd (subst T (sym e) tt)
-
-either : (a b : Bool) → (a || b) ≡ true → (a ≡ true) ⊎ (b ≡ true)
-either true b e = inl refl
-either false b e = inr e
 
 -- the grid of 8 by step 14: a block edge, or an edge of a large transform
 filtered-grid : (start edge s t w : ℕ) (block transform filtered : Bool) → s ≤ 1 → start % 8 ≡ 0 → 2 ≤ t → t ≤ 3 → fits s w ≡ true

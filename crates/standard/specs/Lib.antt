@@ -1,3 +1,4 @@
 pub mod FrameLists
+pub mod TableStandard
 pub mod DecidedStandard
 pub mod PassStandard

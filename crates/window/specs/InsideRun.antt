@@ -8,12 +8,13 @@ use native.Mathlib.Nat.{add-mul}
 use native.Mathlib.Omega.{arith}
 use lib.Dec.{leb}
 use borrow.Author.Tests.{leb-true}
+use Rattle.base.specs.Tests.{both}
 use Rattle.geometry.specs.declared.Pass.{Pass}
 use Rattle.geometry.specs.declared.Pass.the-variants.{Vertical, Horizontal}
 use Rattle.window.specs.Stencil.{Stencil, applied, inTurn}
 use Rattle.window.specs.StencilLaws.{applied-same}
 use Rattle.window.specs.Window.{place, clamp, tapRead, tapStored, tapWritten, alongX, alongY, runOf}
-use Rattle.window.specs.WindowLaws.{Inside, both, among-yes}
+use Rattle.window.specs.WindowLaws.{Inside, among-yes}
 use Rattle.window.specs.declared.WindowShape.{WindowShape}
 
 -- all taps of n positions from (x, y) on are in the window

@@ -9,12 +9,13 @@ use Prim.Native.Nat.{ℕ, _+_, _-_, _≤_, _<_}
 use native.Mathlib.Omega.{arith}
 use lib.ListN.{getD}
 use Rattle.base.specs.First.{found-none, first-is}
+use Rattle.base.specs.Tests.{both}
 use Rattle.geometry.specs.declared.Pass.{Pass}
 use Rattle.geometry.specs.declared.Pass.the-variants.{Vertical, Horizontal}
 use Rattle.window.specs.Stencil.{Stencil, applied}
 use Rattle.window.specs.StencilLaws.{live, Apart, applied-other, applied-idle}
 use Rattle.window.specs.Window.{place, clamp, tapX, tapY, tapStored, stencil}
-use Rattle.window.specs.WindowLaws.{Lent, Inside, place-unique, clamp-inside, both, Tap, tap-in, tap-inside}
+use Rattle.window.specs.WindowLaws.{Lent, Inside, place-unique, clamp-inside, Tap, tap-in, tap-inside}
 use Rattle.window.specs.declared.WindowShape.{WindowShape}
 
 -- the samples (x′, y′) from the first tap of the position at (x, y) to its last

@@ -8,7 +8,7 @@ use native.Mathlib.Decide.{decLt}
 use native.Mathlib.Omega.{arith}
 use lib.Dec.{T, eqb, leb, ltb}
 use borrow.Author.Tests.{ltb-false, eqb-false, leb-true, ltb-true, lt-ltb, le-ltb, le-leb, ne-eqb}
-use Rattle.base.specs.Tests.{neither}
+use Rattle.base.specs.Tests.{neither, both}
 use Rattle.window.specs.Window.{badWindow, place, clamp, among}
 use Rattle.window.specs.declared.WindowShape.{WindowShape}
 
@@ -129,11 +129,7 @@ place-unique g f x y x′ y′ i i′ e =
 pub clamp-inside : (g : WindowShape) → 0 < g .width → 0 < g .height → (u v : ℕ) → Inside g (clamp 0 (g .width) u) (clamp (g .top) (g .height) v)
 clamp-inside g w h u v = record { right = omega arith; above = omega arith; below = omega arith }
 
--- ---- both parts of a test, and the test of a range
-
-pub both : (a b : Bool) → (a && b) ≡ true → (a ≡ true) × (b ≡ true)
-both true b e = (refl, e)
-both false b e = (e, cc)
+-- ---- the test of a range
 
 pub among-yes : (lo n v : ℕ) → lo ≤ v → v < lo + n → among lo n v ≡ true
 among-yes lo n v h k = rw (le-leb lo v h, lt-ltb v (lo + n) k)
