@@ -7,7 +7,7 @@ use Prim.Native.Nat.{ℕ, zero, suc, _+_, _*_}
 use lib.Dec.{eqb, ltb}
 use lib.IntN.{ℤ, pos, negℤ}
 use Rattle.base.specs.Notation.{Clip3}
-use Rattle.section_8_8.specs.LoopFilterProcess.{Header, Frame, Plane, forTo, lvlSeg, LvlLookup, x, y, loopCol, loopRow, MiSize, txSz, ssSize, uvTxSize, sbSize, isIntra, modeType, isBlockEdge, isTxEdge, is32Edge, onScreen, applyFilter, filterSize, lvl, limitOf, blimitOf, threshOf, Line, hevMask, filterMask, flatMask, flatMask2, c, sample, narrowFilter, sumTo, smoothed, wideFilter, sampleFiltering, lineAt, stored, filteredAt, superblockPass}
+use Rattle.section_8_8.specs.LoopFilterProcess.{Header, Frame, Plane, forTo, lvlSeg, LvlLookup, x, y, loopCol, loopRow, MiSize, txSz, ssSize, uvTxSize, sbSize, isIntra, modeType, isBlockEdge, isTxEdge, is32Edge, onScreen, applyFilter, filterSize, lvl, limitOf, blimitOf, threshOf, Line, hevMask, filterMask, flatMask, flatMask2, c, sample, narrowFilter, sumTo, smoothed, wideFilter, sampleFiltering, lineAt, stored, filteredAt, superblockPass, loopFilterFrame}
 
 -- ---- Table M
 
@@ -116,3 +116,23 @@ rowOf s (suc n) = rowOf s n ++ s n 0 ∷ []
 pub case-s-samples : rowOf after 16 ≡ 100 ∷ 100 ∷ 100 ∷ 100 ∷ 100 ∷ 101 ∷ 101 ∷ 102 ∷ 103 ∷ 103 ∷ 104 ∷ 104 ∷ 104 ∷ 104 ∷ 104 ∷ 104 ∷ []
 unfolding forTo x y loopCol loopRow MiSize txSz sbSize isIntra modeType isBlockEdge isTxEdge is32Edge onScreen applyFilter filterSize lvl limitOf blimitOf threshOf hevMask filterMask flatMask flatMask2 sumTo smoothed wideFilter sampleFiltering lineAt stored filteredAt superblockPass Clip3 c sample narrowFilter
 case-s-samples = refl
+
+-- and all three planes after the whole frame, at level 32
+abbrev plain : Header
+plain =
+    record {
+      loopFilterLevel = 32;
+      deltaEnabled = false;
+      refDeltas = λ ref. pos 0;
+      modeDeltas = λ mode. pos 0;
+      absolute = false;
+      featureActive = λ segment. false;
+      featureData = λ segment. pos 0;
+    }
+
+abbrev framed : (plane : ℕ) → List ℕ
+framed plane = rowOf (loopFilterFrame plain frame (λ k x y. cond (ltb x 8) 100 104) plane) 16
+
+pub case-s-frame : framed 0 ++ framed 1 ++ framed 2 ≡ rowOf after 16 ++ rowOf after 16 ++ rowOf after 16
+unfolding forTo lvlSeg LvlLookup x y loopCol loopRow MiSize txSz ssSize uvTxSize sbSize isIntra modeType isBlockEdge isTxEdge is32Edge onScreen applyFilter filterSize lvl limitOf blimitOf threshOf hevMask filterMask flatMask flatMask2 sumTo smoothed wideFilter sampleFiltering lineAt stored filteredAt superblockPass loopFilterFrame Clip3 c sample narrowFilter
+case-s-frame = refl
