@@ -11,6 +11,14 @@ mod strength_record;
 
 use replay::Kind;
 use replay::replay_file;
+use replay::replay_form;
+
+// The same rows and passes, through the forms of the library that take records.
+fn replay_record_forms() {
+    replay_form(b"rows.bin", b", cell records", Kind::RowRecords);
+    replay_form(b"passes.bin", b", window record", Kind::PassWindow);
+    replay_form(b"passes.bin", b", cell records", Kind::PassRecords);
+}
 
 fn main() {
     replay_file(b"levels.bin", Kind::Levels);
@@ -21,4 +29,5 @@ fn main() {
     replay_file(b"edges.bin", Kind::Edge);
     replay_file(b"passes.bin", Kind::Pass);
     replay_file(b"sheets.bin", Kind::Sheet);
+    replay_record_forms();
 }

@@ -6,8 +6,13 @@ use crate::numbers::wide;
 use crate::numbers::wide16_at;
 use crate::numbers::wide32_at;
 use crate::replay::Record;
+use cell_records::CellRecord;
+use cell_records::record_of;
 use faults::PassAnswer;
 use pass::superblock_loop_filter_cells;
+use plane_window::numbers::PassNumbers;
+use plane_window::pass_plane;
+use record_replay::pass_front_unchecked;
 use window::WindowShape;
 
 pub(crate) const LENGTH: usize = 2728;
@@ -16,6 +21,13 @@ pub(crate) const LENGTH: usize = 2728;
 const CELLS: usize = 32;
 
 const SAMPLES: usize = 640;
+
+// The form in which the pass is called: over words, over a window record, over cell records.
+pub(crate) enum Form {
+    Words,
+    Window,
+    Records,
+}
 
 // The lists' lengths. A record that says more than there is room for is different.
 fn are_lengths(record: &Record) -> bool {
@@ -56,24 +68,96 @@ fn window_of(record: &Record) -> WindowShape {
     }
 }
 
-fn pass_answer(record: &Record, samples: &mut [u16]) -> PassAnswer {
+fn numbers_of(record: &Record) -> PassNumbers {
+    PassNumbers {
+        sharpness: record[0],
+        bit_depth: record[1],
+        sub_x: record[2],
+        sub_y: record[3],
+        mi_cols: wide16_at(record, 8),
+        mi_rows: wide16_at(record, 10),
+        mi_row: wide16_at(record, 12),
+        mi_col: wide16_at(record, 14),
+        plane: record[4],
+        pass: record[5],
+    }
+}
+
+fn words_answer(record: &Record, samples: &mut [u16]) -> PassAnswer {
     let cells = cells_of(record);
     let lent = at_most(wide(record[7]), CELLS);
+    let p = numbers_of(record);
     superblock_loop_filter_cells(
         samples,
         window_of(record),
         &cells[0..lent],
-        record[0],
-        record[1],
-        record[2],
-        record[3],
-        wide16_at(record, 8),
-        wide16_at(record, 10),
-        wide16_at(record, 12),
-        wide16_at(record, 14),
-        record[4],
-        record[5],
+        p.sharpness,
+        p.bit_depth,
+        p.sub_x,
+        p.sub_y,
+        p.mi_cols,
+        p.mi_rows,
+        p.mi_row,
+        p.mi_col,
+        p.plane,
+        p.pass,
     )
+}
+
+fn window_answer(record: &Record, samples: &mut [u16]) -> PassAnswer {
+    let cells = cells_of(record);
+    let lent = at_most(wide(record[7]), CELLS);
+    let w = window_of(record);
+    pass_plane(
+        samples,
+        &cells[0..lent],
+        w.width,
+        w.height,
+        w.stride,
+        w.top,
+        numbers_of(record),
+    )
+}
+
+// No record holds a word's zero bits. For a word that 11 refuses because one is set stands a record with
+// a field too large, which 11 refuses at the same place. Any other word has a record of its own.
+fn cell_record(word: u32) -> CellRecord {
+    let mut own = record_of(word);
+    if word % 4096 != 0 {
+        own.width0 = 4;
+    }
+    own
+}
+
+fn records_of(record: &Record) -> [CellRecord; CELLS] {
+    let mut out = [cell_record(0); CELLS];
+    for k in 0..CELLS {
+        out[k] = cell_record(unsigned32_at(record, 40 + 4 * k));
+    }
+    out
+}
+
+fn records_answer(record: &Record, samples: &mut [u16]) -> PassAnswer {
+    let lent = at_most(wide(record[7]), CELLS);
+    let w = window_of(record);
+    pass_front_unchecked(
+        samples,
+        records_of(record),
+        lent,
+        w.width,
+        w.height,
+        w.stride,
+        w.top,
+        numbers_of(record),
+    )
+}
+
+fn pass_answer(record: &Record, samples: &mut [u16], form: Form) -> PassAnswer {
+    match form {
+        Form::Words => words_answer(record, samples),
+        Form::Window => window_answer(record, samples),
+        Form::Records => records_answer(record, samples),
+    }
 }
 
 fn are_same(a: &[u16; SAMPLES], b: &[u16; SAMPLES]) -> bool {
@@ -108,10 +192,10 @@ fn is_answer(record: &Record, answer: PassAnswer) -> bool {
 }
 
 // A refusal leaves the samples, and an accepted pass those that are not lent: all are compared.
-pub(crate) fn is_equal(record: &Record) -> bool {
+pub(crate) fn is_equal(record: &Record, form: Form) -> bool {
     let mut samples = samples_at(record, 168);
     let after = samples_at(record, 1448);
     let lent = at_most(wide32_at(record, 32), SAMPLES);
-    let answer = pass_answer(record, &mut samples[0..lent]);
+    let answer = pass_answer(record, &mut samples[0..lent], form);
     are_lengths(record) & is_answer(record, answer) & are_same(&samples, &after)
 }

@@ -4,6 +4,7 @@ use crate::edge_record;
 use crate::levels_record;
 use crate::line_record;
 use crate::pass_record;
+use crate::pass_record::Form;
 use crate::row_record;
 use crate::sheet_record;
 use crate::strength_record;
@@ -18,8 +19,11 @@ pub(crate) enum Kind {
     Strength,
     Line,
     Row,
+    RowRecords,
     Edge,
     Pass,
+    PassWindow,
+    PassRecords,
     Sheet,
 }
 
@@ -46,9 +50,9 @@ fn record_length(kind: Kind) -> usize
         Kind::Levels => levels_record::LENGTH,
         Kind::Strength => strength_record::LENGTH,
         Kind::Line => line_record::LENGTH,
-        Kind::Row => row_record::LENGTH,
+        Kind::Row | Kind::RowRecords => row_record::LENGTH,
         Kind::Edge => edge_record::LENGTH,
-        Kind::Pass => pass_record::LENGTH,
+        Kind::Pass | Kind::PassWindow | Kind::PassRecords => pass_record::LENGTH,
         Kind::Sheet => sheet_record::LENGTH,
     }
 }
@@ -59,8 +63,11 @@ fn is_equal(kind: Kind, record: &Record) -> bool {
         Kind::Strength => strength_record::is_equal(record),
         Kind::Line => line_record::is_equal(record),
         Kind::Row => row_record::is_equal(record),
+        Kind::RowRecords => row_record::is_equal_in_records(record),
         Kind::Edge => edge_record::is_equal(record),
-        Kind::Pass => pass_record::is_equal(record),
+        Kind::Pass => pass_record::is_equal(record, Form::Words),
+        Kind::PassWindow => pass_record::is_equal(record, Form::Window),
+        Kind::PassRecords => pass_record::is_equal(record, Form::Records),
         Kind::Sheet => sheet_record::is_equal(record),
     }
 }
@@ -121,8 +128,7 @@ fn print_tally(tally: Tally) {
     io::write_all(STDOUT_FILENO, b"\n");
 }
 
-pub(crate) fn replay_file(name: &[u8], kind: Kind) {
-    io::write_all(STDOUT_FILENO, name);
+fn replay(name: &[u8], kind: Kind) {
     let fd = os::open_read(name);
     if fd < 0 {
         io::write_all(STDOUT_FILENO, b": cannot be read\n");
@@ -130,4 +136,16 @@ pub(crate) fn replay_file(name: &[u8], kind: Kind) {
     }
     print_tally(tally_of(fd, kind));
     libc::close(fd);
+}
+
+pub(crate) fn replay_file(name: &[u8], kind: Kind) {
+    io::write_all(STDOUT_FILENO, name);
+    replay(name, kind);
+}
+
+// The same through another form of the library, which is named behind the file.
+pub(crate) fn replay_form(name: &[u8], form: &[u8], kind: Kind) {
+    io::write_all(STDOUT_FILENO, name);
+    io::write_all(STDOUT_FILENO, form);
+    replay(name, kind);
 }

@@ -5,6 +5,12 @@ use crate::numbers::unsigned32_at;
 use crate::numbers::wide;
 use crate::numbers::wide16_at;
 use crate::replay::Record;
+use cell_records::CellRecord;
+use cell_records::record_of;
+use cell_records::word_of;
+use record_replay::rows::RowMade;
+use record_replay::rows::row_front_unchecked;
+use record_row::RowNumbers;
 use row::RowAnswer;
 use row::row_cells;
 
@@ -123,4 +129,63 @@ pub(crate) fn is_equal(record: &Record) -> bool {
     let words = length_at(record, 16);
     let answer = row_answer(record, &mut cells[0..words]);
     are_lengths(record) & is_answer(record, answer) & are_same(&cells, &after)
+}
+
+fn numbers_of(record: &Record) -> RowNumbers {
+    RowNumbers {
+        sharpness: record[0],
+        bit_depth: record[1],
+        sub_x: record[2],
+        sub_y: record[3],
+        mi_cols: wide16_at(record, 4),
+        mi_rows: wide16_at(record, 6),
+        mi_row: wide16_at(record, 8),
+    }
+}
+
+fn records_at(record: &Record, start: usize) -> [CellRecord; ENTRIES]
+    requires { ⌜ start < 3000 ⌝ }
+{
+    let mut out = [record_of(0); ENTRIES];
+    for k in 0..ENTRIES {
+        out[k] = record_of(unsigned32_at(record, start + 4 * k));
+    }
+    out
+}
+
+// A word before may have zero bits set, which no record holds: they are not compared. The row sets none.
+fn are_records(record: &Record, records: [CellRecord; ENTRIES]) -> bool {
+    for k in 0..ENTRIES {
+        let after = unsigned32_at(record, 396 + 4 * k);
+        if word_of(records[k]) != after / 4096 * 4096 {
+            return false;
+        }
+    }
+    true
+}
+
+fn row_made(record: &Record) -> RowMade {
+    let ref_frames = references_of(record);
+    let levels = levels_of(record);
+    let references = length_at(record, 13);
+    row_front_unchecked(
+        list_at(record, 84, length_at(record, 10)),
+        list_at(record, 108, length_at(record, 11)),
+        list_at(record, 132, length_at(record, 12)),
+        &ref_frames[0..references],
+        list_at(record, 252, length_at(record, 14)),
+        list_at(record, 276, length_at(record, 15)),
+        &levels,
+        numbers_of(record),
+        records_at(record, 300),
+        length_at(record, 16),
+    )
+}
+
+// As is_equal, with cell records in place of words.
+pub(crate) fn is_equal_in_records(record: &Record) -> bool {
+    let made = row_made(record);
+    let answer = made.answer;
+    let records = made.records;
+    are_lengths(record) & is_answer(record, answer) & are_records(record, records)
 }
