@@ -1,0 +1,1 @@
+// The keys of a pass over a superblock of a plane.
