@@ -19,13 +19,14 @@ use Rattle.decisions.specs.Decision.{levelless}
 use Rattle.geometry.specs.Frame.{badSubsampling, badFrameSize, badStart, cellsFrom}
 use Rattle.geometry.specs.FrameLaws.{flags}
 use Rattle.geometry.specs.declared.Pass.{Pass}
+use Rattle.geometry.specs.declared.Superblock.{Superblock}
 use Rattle.positions.specs.Positions.{Placed}
 use Rattle.pass_edges.specs.PassEdges.{edgeCount}
 use Rattle.positions.specs.PositionsLaws.{placed}
 use Rattle.window.specs.Window.{badWindow, badSample}
 use Rattle.window.specs.WindowLaws.{Lent, lent}
 use Rattle.window.specs.declared.WindowShape.{WindowShape}
-use Rattle.faults.specs.Faults.{numbersRefused, listsRefused, returnedOf}
+use Rattle.faults.specs.Faults.{numbersRefused, lentRefused, listsRefused, returnedOf}
 use Rattle.faults.specs.declared.PassAnswer.{PassAnswer}
 use Rattle.faults.specs.declared.PassAnswer.the-variants.{Done, Sharpness, Depth, Subsampling, FrameSize, Row, Short, Plane, Column, Cell, Window, Sample, Level}
 
@@ -73,14 +74,20 @@ pub record Lists (g : WindowShape) (t : Setting) (pass : Pass) (samples : List �
   pub samples-good : found (badSample g (2 ^ t .depth) samples) (g .height * g .width) ≡ false
   pub levels-present : found (levelless (t .superblock) pass (t .chroma) (t .cells)) (64 * edgeCount (t .superblock) pass) ≡ false
 
+pub lent-passed : {A : Type 0} (g : WindowShape) (s : Superblock) (depth : ℕ) (cells samples : List ℕ) (after : Outcome A) {result : A} → lentRefused g s depth cells samples after ≡ accepted result
+    → (found (badCell cells) (cellsFrom (s .row) (s .cols) (s .rows)) ≡ false) × Lent g (length samples) × (found (badSample g (2 ^ depth) samples) (g .height * g .width) ≡ false) × (after ≡ accepted result)
+lent-passed g s depth cells samples after e =
+    let t11 = passed (found (badCell cells) (cellsFrom (s .row) (s .cols) (s .rows))) 11 _ _ e in
+    let t12 = passed (badWindow g (length samples)) 12 0 _ (t11 .1) in
+    let t13 = passed (found (badSample g (2 ^ depth) samples) (g .height * g .width)) 13 _ _ (t12 .1) in
+    (t11 .0, lent g (length samples) (t12 .0), t13 .0, t13 .1)
+
 pub lists-passed : {A : Type 0} (g : WindowShape) (t : Setting) (pass : Pass) (samples : List ℕ) (after : Outcome A) {result : A}
     → listsRefused g t pass samples after ≡ accepted result → Lists g t pass samples × (after ≡ accepted result)
 lists-passed g t pass samples after e =
-    let t11 = passed (found (badCell (t .cells)) (cellsFrom (t .superblock .row) (t .superblock .cols) (t .superblock .rows))) 11 _ _ e in
-    let t12 = passed (badWindow g (length samples)) 12 0 _ (t11 .1) in
-    let t13 = passed (found (badSample g (2 ^ t .depth) samples) (g .height * g .width)) 13 _ _ (t12 .1) in
-    let t14 = passed (found (levelless (t .superblock) pass (t .chroma) (t .cells)) (64 * edgeCount (t .superblock) pass)) 14 _ _ (t13 .1) in
-    (record { cells-good = t11 .0; window-lent = lent g (length samples) (t12 .0); samples-good = t13 .0; levels-present = t14 .0 }, t14 .1)
+    let l = lent-passed g (t .superblock) (t .depth) (t .cells) samples _ e in
+    let t14 = passed (found (levelless (t .superblock) pass (t .chroma) (t .cells)) (64 * edgeCount (t .superblock) pass)) 14 _ _ (l .3) in
+    (record { cells-good = l .0; window-lent = l .1; samples-good = l .2; levels-present = t14 .0 }, t14 .1)
 
 -- ---- the tests as the code makes them
 
