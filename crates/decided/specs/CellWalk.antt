@@ -10,7 +10,6 @@ use Rattle.geometry.specs.declared.Pass.{Pass}
 use Rattle.geometry.specs.declared.Superblock.{Superblock}
 use Rattle.order.specs.Grid.{select, select-append, strip, grid, strip-split, strips-split}
 use Rattle.pass_edges.specs.PassEdges.{edgeCount}
-use Rattle.decided.specs.JoinLaws.{Joins, joins-true}
 use Rattle.decided.specs.KeptLaws.{silent}
 use Rattle.decided.specs.KeyRuns.{keyRun, keyFor, keyCell, keyRuns}
 use Rattle.decided.specs.KeyRunLaws.{kept-keys}
@@ -23,18 +22,6 @@ closed a b = cond (joins a b) [] (a ∷ [])
 
 unfoldable pub grown : (a b : EdgeRun) → EdgeRun
 grown a b = cond (joins a b) (longer a (b .count)) b
-
--- cell c of an edge, where its key filters
-unfoldable pub keyKept : Superblock → Pass → (key edge c : ℕ) → List EdgeRun
-keyKept s pass key edge c = select runFilters (keyRun s pass key edge c ∷ [])
-
-pub kept-none : (s : Superblock) (pass : Pass) (key edge c : ℕ) → key % 64 ≡ 0 → [] ≡ keyKept s pass key edge c
-unfolding keyKept keyRun
-kept-none s pass key edge c e = rw e
-
-pub kept-one : (s : Superblock) (pass : Pass) (key edge c : ℕ) → 0 < key % 64 → keyRun s pass key edge c ∷ [] ≡ keyKept s pass key edge c
-unfolding keyKept keyRun
-kept-one s pass key edge c h = rw (lt-ltb 0 (key % 64) h)
 
 -- the same for cells that arrive one after the other
 unfoldable pub walked : EdgeRun → List EdgeRun → List EdgeRun
@@ -84,16 +71,19 @@ walked-joined a (b ∷ l) = by (joins a b) (walked-joined (longer a (b .count)) 
     by true e f = e
     by false e f = ap (λ (r : List EdgeRun). a ∷ r) f
 
--- what holds of the first run and of the cells, and of a run that two make if it holds of both, holds of the run that is pending
-pub grown-all : (P : EdgeRun → Type 0) → ((a b : EdgeRun) → Joins a b → P a → P b → P (longer a (b .count))) → (a b : EdgeRun) → P a → P b → P (grown a b)
-unfolding grown
-grown-all P more a b p q = by (joins a b) refl
-  where
-    by : (t : Bool) → joins a b ≡ t → P (cond t (longer a (b .count)) b)
-    by true e = more a b (joins-true a b e) p q
-    by false e = q
-
 -- ---- a walk over the cells of a pass that filter, by their keys
+
+-- cell c of an edge, where its key filters
+unfoldable pub keyKept : Superblock → Pass → (key edge c : ℕ) → List EdgeRun
+keyKept s pass key edge c = select runFilters (keyRun s pass key edge c ∷ [])
+
+pub kept-none : (s : Superblock) (pass : Pass) (key edge c : ℕ) → key % 64 ≡ 0 → [] ≡ keyKept s pass key edge c
+unfolding keyKept keyRun
+kept-none s pass key edge c e = rw e
+
+pub kept-one : (s : Superblock) (pass : Pass) (key edge c : ℕ) → 0 < key % 64 → keyRun s pass key edge c ∷ [] ≡ keyKept s pass key edge c
+unfolding keyKept keyRun
+kept-one s pass key edge c h = rw (lt-ltb 0 (key % 64) h)
 
 module _ (s : Superblock) (pass : Pass) (outer inner : List ℕ) where
   -- those among the first cells of an edge, and of the first edges

@@ -13,7 +13,6 @@ use Rattle.decided.specs.Decided.{Setting}
 use Rattle.decisions.specs.Decision.{levelless}
 use Rattle.geometry.specs.Frame.{badSubsampling, badFrameSize, badStart, cellsFrom}
 use Rattle.geometry.specs.declared.Pass.{Pass}
-use Rattle.geometry.specs.declared.Superblock.{Superblock}
 use Rattle.pass_edges.specs.PassEdges.{edgeCount}
 use Rattle.window.specs.Window.{badWindow, badSample}
 use Rattle.window.specs.declared.WindowShape.{WindowShape}
@@ -42,14 +41,6 @@ listsRefused g t pass samples after =
     (refuseFirst (badSample g (2 ^ t .depth) samples) (g .height * g .width) 13
     (refuseFirst (levelless s pass (t .chroma) (t .cells)) (64 * edgeCount s pass) 14
     after)))
-
--- those of 11 to 13, whatever the pass
-abbrev pub lentRefused : {A : Type 0} → WindowShape → Superblock → (depth : ℕ) (cells samples : List ℕ) → Outcome A → Outcome A
-lentRefused g s depth cells samples after =
-    refuseFirst (badCell cells) (cellsFrom (s .row) (s .cols) (s .rows)) 11
-    (refuse (badWindow g (length samples)) 12 0
-    (refuseFirst (badSample g (2 ^ depth) samples) (g .height * g .width) 13
-    after))
 
 -- document 01's number and place for each answer
 abbrev pub returnedOf : PassAnswer → Returned

@@ -9,8 +9,8 @@ use lib.Dec.{ltb}
 use lib.ListN.{length}
 use borrow.Author.Tests.{ltb-false, not-false}
 use Rattle.base.specs.Depth.{supported}
-use Rattle.base.specs.First.{found}
-use Rattle.base.specs.Outcome.{Outcome, accepted, refused, refuse, Answers}
+use Rattle.base.specs.First.{found, refuseFirst}
+use Rattle.base.specs.Outcome.{Outcome, accepted, refused, refuse}
 use Rattle.base.specs.OutcomeLaws.{passed}
 use Rattle.base.specs.Tests.{neither}
 use Rattle.bad_words.specs.BadWord.{badCell}
@@ -26,7 +26,7 @@ use Rattle.positions.specs.PositionsLaws.{placed}
 use Rattle.window.specs.Window.{badWindow, badSample}
 use Rattle.window.specs.WindowLaws.{Lent, lent}
 use Rattle.window.specs.declared.WindowShape.{WindowShape}
-use Rattle.faults.specs.Faults.{numbersRefused, lentRefused, listsRefused, returnedOf}
+use Rattle.faults.specs.Faults.{numbersRefused, listsRefused, returnedOf}
 use Rattle.faults.specs.declared.PassAnswer.{PassAnswer}
 use Rattle.faults.specs.declared.PassAnswer.the-variants.{Done, Sharpness, Depth, Subsampling, FrameSize, Row, Short, Plane, Column, Cell, Window, Sample, Level}
 
@@ -73,6 +73,14 @@ pub record Lists (g : WindowShape) (t : Setting) (pass : Pass) (samples : List �
   pub window-lent : Lent g (length samples)
   pub samples-good : found (badSample g (2 ^ t .depth) samples) (g .height * g .width) ≡ false
   pub levels-present : found (levelless (t .superblock) pass (t .chroma) (t .cells)) (64 * edgeCount (t .superblock) pass) ≡ false
+
+-- refusals 11 to 13, which the code tests before it decides anything
+abbrev pub lentRefused : {A : Type 0} → WindowShape → Superblock → (depth : ℕ) (cells samples : List ℕ) → Outcome A → Outcome A
+lentRefused g s depth cells samples after =
+    refuseFirst (badCell cells) (cellsFrom (s .row) (s .cols) (s .rows)) 11
+    (refuse (badWindow g (length samples)) 12 0
+    (refuseFirst (badSample g (2 ^ depth) samples) (g .height * g .width) 13
+    after))
 
 pub lent-passed : {A : Type 0} (g : WindowShape) (s : Superblock) (depth : ℕ) (cells samples : List ℕ) (after : Outcome A) {result : A} → lentRefused g s depth cells samples after ≡ accepted result
     → (found (badCell cells) (cellsFrom (s .row) (s .cols) (s .rows)) ≡ false) × Lent g (length samples) × (found (badSample g (2 ^ depth) samples) (g .height * g .width) ≡ false) × (after ≡ accepted result)
@@ -159,6 +167,3 @@ numbers-any sharpness depth subX subY miCols miRows row col plane pass cellsLent
     then : andThen (numbersRefused sharpness depth subX subY miCols miRows row col plane pass cellsLent none) after
         ≡ numbersRefused sharpness depth subX subY miCols miRows row col plane pass cellsLent after
     then = simp refuse-then
-
-pub done-answer : (outcome : Outcome (List ℕ)) (samples result : List ℕ) → outcome ≡ accepted result → Answers outcome (returnedOf Done) samples result
-done-answer outcome samples result e = rw e (refl, refl)

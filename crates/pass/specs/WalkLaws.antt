@@ -5,10 +5,10 @@ use mathlib.Core.Bool.{true, false}
 use mathlib.Core.List.{List, [], _∷_, _++_}
 use Prim.Native.Nat.{ℕ}
 use lib.ListN.{length}
-use Rattle.decided.specs.CellWalk.{closed, grown, walked, pending, walked-one, pending-one, walked-append, pending-append, grown-all, passCells, walked-runs}
+use Rattle.decided.specs.CellWalk.{closed, grown, walked, pending, walked-one, pending-one, walked-append, pending-append, passCells, walked-runs}
 use Rattle.decided.specs.KeyRuns.{keyRuns}
 use Rattle.decided.specs.Runs.{joins, longer}
-use Rattle.decided.specs.RunsLaws.{Small, longer-small}
+use Rattle.decided.specs.RunsLaws.{Small}
 use Rattle.decided.specs.declared.EdgeRun.{EdgeRun}
 use Rattle.geometry.specs.declared.Pass.{Pass}
 use Rattle.geometry.specs.declared.Superblock.{Superblock}

@@ -1,10 +1,7 @@
 use borrow.Author.Needs.{needs}
-use mathlib.Core.Bool.{true, false}
-use mathlib.Core.Path.{_≡_}
 use Prim.Native.Nat.{_+_, _*_, _/_, _%_}
 use native.Mathlib.Omega.{arith}
 use borrow.Author.Tests.{eq-eqb, ne-eqb}
-use lib.Dec.{eqb}
 use Rattle.decided.specs.KeyRuns.{keyFor}
 use Rattle.decided.proofs.key_at_unchecked.Statement.{statement}
 use Rattle.decided.proofs.key_at_unchecked.Tie as tie

@@ -1,9 +1,9 @@
 use borrow.Author.Needs.{needs}
-use mathlib.Core.Path.{_≡_, refl, sym, ap, _∙_}
+use mathlib.Core.Path.{_≡_, sym, _∙_}
 use Prim.Native.Nat.{_-_, _≤_}
 use native.Mathlib.Nat.{zero-add}
 use native.Mathlib.Omega.{arith}
-use lib.ListN.{set, replicate, length}
+use lib.ListN.{replicate}
 use lib.Seq.{take-all}
 use Rattle.base.specs.Filled.{filled, filled-none, filled-more, length-filled, take-filled}
 use Rattle.keys.specs.Keys.{keyIn, keysOf}

@@ -1,22 +1,21 @@
 use borrow.Author.Needs.{needs}
 use mathlib.Core.Bool.{Bool, true, false}
-use mathlib.Core.Path.{_≡_, refl, sym, _∙_}
+use mathlib.Core.Path.{_≡_, refl, sym}
 use Prim.Native.Nat.{ℕ}
-use native.Mathlib.Omega.{arith}
-use borrow.Author.Tests.{lt-ltb, le-ltb}
+use borrow.Author.Tests.{ltb-true, ltb-false}
 use lib.Dec.{ltb}
-use Rattle.base.specs.First.{found, first, first-is}
-use Rattle.base.specs.FirstLaws.{first-nowhere}
+use Rattle.base.specs.First.{found, first}
+use Rattle.base.specs.FirstLaws.{first-below, first-past}
 use Rattle.keys.proofs.keys_unchecked.Statement.{statement}
 use Rattle.keys.proofs.keys_unchecked.Tie as tie
 
 -- a search that ends among the places has found one
 ends-found : (test : ℕ → Bool) (n : ℕ) → ltb (first test n) n ≡ found test n
-ends-found test n = by (found test n) refl
+ends-found test n = by (ltb (first test n) n) refl
   where
-    by : (b : Bool) → found test n ≡ b → ltb (first test n) n ≡ found test n
-    by true e = lt-ltb (first test n) n (omega (arith, first-is test n e .to)) ∙ sym e
-    by false e = le-ltb (first test n) n (omega (arith, first-nowhere test n e)) ∙ sym e
+    by : (b : Bool) → ltb (first test n) n ≡ b → b ≡ found test n
+    by true e = sym (first-below test n (ltb-true (first test n) n e))
+    by false e = sym (first-past test n (ltb-false (first test n) n e))
 
 returns : tie.Need-returns
 returns c =

@@ -1,9 +1,7 @@
 use borrow.Author.Needs.{needs}
-use mathlib.Core.Path.{refl, sym, ap, _∙_}
-use Rattle.base.specs.Outcome.{accepted}
+use mathlib.Core.Path.{refl, sym, _∙_}
 use Rattle.decided.specs.Decided.{Setting, setting}
 use Rattle.decided.specs.KeyRunLaws.{keys-small}
-use Rattle.faults.specs.FaultsLaws.{done-answer}
 use Rattle.pass.specs.WorkLaws.{ready-able, keys-filtered}
 use Rattle.pass.proofs.test_levels_and_filter.Statement.{statement}
 use Rattle.pass.proofs.test_levels_and_filter.Tie as tie
