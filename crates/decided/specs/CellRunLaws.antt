@@ -140,10 +140,10 @@ module _ (t : Setting) (pass : Pass) where
   unfolding cellRun
   first-says = grid-all cellAt First (edgeCount (t .superblock) pass) 8 (λ edge c h k. (refl, record { size = refl; level = refl }))
 
-  abbrev pub Uniform : EdgeRun → Type 0
+  abbrev Uniform : EdgeRun → Type 0
   Uniform a = (p : Position) → List·Memᴰ p (positionsOf a) → Says (a .size) (a .level) (decisionAt t pass p)
 
-  pub cell-uniform : (edge c : ℕ) → Uniform (cellAt edge c)
+  cell-uniform : (edge c : ℕ) → Uniform (cellAt edge c)
   unfolding cellRun
   cell-uniform edge c p m =
       let r = strip-mem position edge (start c) len m in
@@ -153,7 +153,7 @@ module _ (t : Setting) (pass : Pass) where
       let d = at ∙ same-decision (t .superblock) pass (t .chroma) (t .cells) edge c (r .i - start c) (omega arith) in
       record { size = ap (λ (x : Decision). x .size) d; level = ap levelOf d }
 
-  pub longer-uniform : (a b : EdgeRun) → Joins a b → Uniform a → Uniform b → Uniform (longer a (b .count))
+  longer-uniform : (a b : EdgeRun) → Joins a b → Uniform a → Uniform b → Uniform (longer a (b .count))
   longer-uniform a b j u v p m = by (List·Memᴰ·append-cases (positionsOf a) (rw (longer-positions a b j) at m))
     where
       by : List·Memᴰ p (positionsOf a) ⊎ List·Memᴰ p (positionsOf b) → Says (a .size) (a .level) (decisionAt t pass p)

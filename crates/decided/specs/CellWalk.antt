@@ -1,17 +1,19 @@
--- A walk over the cells of a pass, one after the other: the runs that are closed on the way, and the run that may still grow.
+-- A walk over the cells of a pass that filter, one after the other: the runs that are closed on the way, and the run that may still grow.
 -- Assumes nothing.
 use mathlib.Core.Path.{_≡_, refl, sym, ap, _∙_}
 use mathlib.Core.Bool.{Bool, true, false, cond}
-use mathlib.Core.List.{List, [], _∷_, _++_, append-assoc, List·Memᴰ, List·Memᴰ·head, List·Memᴰ·tail}
-use Prim.Native.Nat.{ℕ, zero, suc, _*_, _<_}
+use mathlib.Core.List.{List, [], _∷_, _++_, append-assoc, append-nil}
+use Prim.Native.Nat.{ℕ, _+_, _%_, _<_}
 use native.Mathlib.Omega.{arith}
-use Rattle.geometry.specs.Coordinates.{shr}
+use borrow.Author.Tests.{lt-ltb}
 use Rattle.geometry.specs.declared.Pass.{Pass}
 use Rattle.geometry.specs.declared.Superblock.{Superblock}
-use Rattle.order.specs.Grid.{select, grid}
-use Rattle.pass_edges.specs.PassEdges.{sub, alongSub, edgeCount}
-use Rattle.decided.specs.JoinLaws.{Joins, joins-true}
-use Rattle.decided.specs.Runs.{cellRun, joins, longer, joinedFrom, joined, runFilters, runs}
+use Rattle.order.specs.Grid.{select, select-append, strip, grid, strip-split, strips-split}
+use Rattle.pass_edges.specs.PassEdges.{edgeCount}
+use Rattle.decided.specs.KeptLaws.{silent}
+use Rattle.decided.specs.KeyRuns.{keyRun, keyFor, keyCell, keyRuns}
+use Rattle.decided.specs.KeyRunLaws.{kept-keys}
+use Rattle.decided.specs.Runs.{joins, longer, joinedFrom, runFilters}
 use Rattle.decided.specs.declared.EdgeRun.{EdgeRun}
 
 -- while a is pending, the cell b arrives: the runs that it closes, and the run that is pending then
@@ -69,55 +71,53 @@ walked-joined a (b ∷ l) = by (joins a b) (walked-joined (longer a (b .count)) 
     by true e f = e
     by false e f = ap (λ (r : List EdgeRun). a ∷ r) f
 
--- the run that stands before the first cell has no level, and does not end where that cell starts: it leaves no trace
-pub record Fresh (a : EdgeRun) : Type 0 where
-  pub edge : a .edge ≡ 0
-  pub first : a .first ≡ 1
-  pub count : a .count ≡ 0
-  pub size : a .size ≡ 0
-  pub level : a .level ≡ 0
+-- ---- a walk over the cells of a pass that filter, by their keys
 
-walked-fresh : (a b : EdgeRun) (l : List EdgeRun) → Fresh a → b .first ≡ 0
-    → select runFilters (joinedFrom a (b ∷ l)) ≡ select runFilters (joinedFrom b l)
-unfolding joinedFrom
-walked-fresh a b l f g = by (joins a b) refl
-  where
-    by : (t : Bool) → joins a b ≡ t
-        → select runFilters (cond t (joinedFrom (longer a (b .count)) l) (a ∷ joinedFrom b l)) ≡ select runFilters (joinedFrom b l)
-    by true e = absurd (omega (arith, joins-true a b e .first))
-    by false e = rw (f .level)
+-- cell c of an edge, where its key filters
+unfoldable pub keyKept : Superblock → Pass → (key edge c : ℕ) → List EdgeRun
+keyKept s pass key edge c = select runFilters (keyRun s pass key edge c ∷ [])
 
--- what holds of the first run and of the cells, and of a run that two make if it holds of both, holds of the run that is pending
-pub grown-all : (P : EdgeRun → Type 0) → ((a b : EdgeRun) → Joins a b → P a → P b → P (longer a (b .count))) → (a b : EdgeRun) → P a → P b → P (grown a b)
-unfolding grown
-grown-all P more a b p q = by (joins a b) refl
-  where
-    by : (t : Bool) → joins a b ≡ t → P (cond t (longer a (b .count)) b)
-    by true e = more a b (joins-true a b e) p q
-    by false e = q
+pub kept-none : (s : Superblock) (pass : Pass) (key edge c : ℕ) → key % 64 ≡ 0 → [] ≡ keyKept s pass key edge c
+unfolding keyKept keyRun
+kept-none s pass key edge c e = rw e
 
--- ---- a walk over all cells of a pass
+pub kept-one : (s : Superblock) (pass : Pass) (key edge c : ℕ) → 0 < key % 64 → keyRun s pass key edge c ∷ [] ≡ keyKept s pass key edge c
+unfolding keyKept keyRun
+kept-one s pass key edge c h = rw (lt-ltb 0 (key % 64) h)
 
-some-edge : (b : Bool) → 0 < shr 16 b
-some-edge true = omega arith
-some-edge false = omega arith
+module _ (s : Superblock) (pass : Pass) (outer inner : List ℕ) where
+  -- those among the first cells of an edge, and of the first edges
+  unfoldable pub edgeCells : (edge n : ℕ) → List EdgeRun
+  edgeCells edge n = select runFilters (strip (keyCell s pass outer inner) edge 0 n)
 
-first-none : (b : Bool) → shr (8 * 0) b ≡ 0
-first-none true = refl
-first-none false = refl
+  unfoldable pub passCells : (edges : ℕ) → List EdgeRun
+  passCells edges = select runFilters (grid (keyCell s pass outer inner) edges 8)
 
-pub edges-some : (s : Superblock) (pass : Pass) → 0 < edgeCount s pass
-unfolding edgeCount
-edges-some s pass = some-edge (sub s pass)
+  pub edge-none : (edge : ℕ) → [] ≡ edgeCells edge 0
+  unfolding edgeCells
+  edge-none edge = refl
 
--- the runs that it closes, and the one that it leaves: those that filter are the runs of the pass
-pub walked-runs : (s : Superblock) (pass : Pass) (chroma : Bool) (cells : List ℕ) (a : EdgeRun) → Fresh a →
-    let l = grid (cellRun s pass chroma cells) (edgeCount s pass) 8 in
-    select runFilters (walked a l ++ pending a l ∷ []) ≡ runs s pass chroma cells
-unfolding runs cellRun
-walked-runs s pass chroma cells a f =
-    ap (select runFilters) (walked-joined a (grid (cellRun s pass chroma cells) (edgeCount s pass) 8)) ∙ by (edgeCount s pass) (edges-some s pass)
-  where
-    by : (n : ℕ) → 0 < n → select runFilters (joinedFrom a (grid (cellRun s pass chroma cells) n 8)) ≡ select runFilters (joined (grid (cellRun s pass chroma cells) n 8))
-    by zero h = absurd (omega arith)
-    by (suc n) h = walked-fresh a (cellRun s pass chroma cells 0 0) _ f (first-none (alongSub s pass))
+  pub edge-next : (edge c : ℕ) → edgeCells edge c ++ keyKept s pass (keyFor outer inner edge c) edge c ≡ edgeCells edge (c + 1)
+  unfolding edgeCells keyKept
+  edge-next edge c =
+      let cell = keyCell s pass outer inner in
+      sym (ap (select runFilters) (strip-split cell edge 0 c 1 c (omega arith)) ∙ select-append runFilters (strip cell edge 0 c) (cell edge c ∷ []))
+
+  pub pass-none : [] ≡ passCells 0
+  unfolding passCells
+  pass-none = refl
+
+  pub pass-next : (edge : ℕ) → passCells edge ++ edgeCells edge 8 ≡ passCells (edge + 1)
+  unfolding edgeCells passCells
+  pass-next edge =
+      let cell = keyCell s pass outer inner in
+      sym (ap (select runFilters) (strips-split cell 0 edge 1 8 edge (omega arith) ∙ ap (λ (l : List EdgeRun). grid cell edge 8 ++ l) (append-nil (strip cell edge 0 8))) ∙ select-append runFilters (grid cell edge 8) (strip cell edge 0 8))
+
+  -- the runs that a walk over all of them closes, and the one that it leaves: those that filter are the runs of the pass
+  pub walked-runs : (a : EdgeRun) → a .level ≡ 0 →
+      let l = passCells (edgeCount s pass) in
+      select runFilters (walked a l ++ pending a l ∷ []) ≡ keyRuns s pass outer inner
+  unfolding passCells keyRuns
+  walked-runs a e =
+      let l = select runFilters (grid (keyCell s pass outer inner) (edgeCount s pass) 8) in
+      ap (select runFilters) (walked-joined a l) ∙ silent a l e ∙ kept-keys s pass outer inner

@@ -3,4 +3,7 @@ pub mod Runs
 pub mod JoinLaws
 pub mod CellRunLaws
 pub mod RunsLaws
+pub mod KeyRuns
+pub mod KeptLaws
+pub mod KeyRunLaws
 pub mod CellWalk

@@ -56,7 +56,7 @@ level-small d h = by (d .decided)
     by true = h
     by false = omega arith
 
-pub cell-small : (s : Superblock) (pass : Pass) (chroma : Bool) (cells : List ℕ) (edge c : ℕ) → edge < edgeCount s pass → c < 8
+cell-small : (s : Superblock) (pass : Pass) (chroma : Bool) (cells : List ℕ) (edge c : ℕ) → edge < edgeCount s pass → c < 8
     → Small (cellRun s pass chroma cells edge c)
 unfolding cellRun
 cell-small s pass chroma cells edge c he hc =
@@ -81,7 +81,7 @@ level-filters d = by (d .decided)
     by true = refl
     by false = refl
 
-pub level-decided : (d : Decision) (n : ℕ) → levelOf d ≡ n → 0 < n → (d .decided ≡ true) × (d .level ≡ n)
+level-decided : (d : Decision) (n : ℕ) → levelOf d ≡ n → 0 < n → (d .decided ≡ true) × (d .level ≡ n)
 level-decided d n e h = by (d .decided) e
   where
     by : (b : Bool) → cond b (d .level) 0 ≡ n → (b ≡ true) × (d .level ≡ n)

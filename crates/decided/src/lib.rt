@@ -1,16 +1,11 @@
 // The runs of a pass: along an edge, adjacent cells that filter with equal size and level, joined to at most 16 positions.
 ghost use mathlib.Core.Path.{_≡_};
 ghost use Prim.Native.Nat.{_+_, _≤_, _<_};
-ghost use lib.ListN.{length};
 ghost use Rattle.decided.specs.Decided.{superblockOf};
-ghost use Rattle.decided.specs.Runs.{levelOf, cellRun, joins, longer};
-ghost use Rattle.decided.specs.CellWalk.{Fresh};
+ghost use Rattle.decided.specs.KeyRuns.{keyRun, keyFor, Keyed};
+ghost use Rattle.decided.specs.Runs.{joins, longer};
 ghost use Rattle.decided.specs.RunsLaws.{Small};
-ghost use Rattle.geometry.specs.Frame.{cellsFrom};
-ghost use Rattle.positions.specs.Positions.{Placed};
 ghost use Rattle.pass_edges.specs.PassEdges.{edgeCount};
-use decisions::Decision;
-use decisions::decide_unchecked;
 use geometry::Pass;
 use geometry::Superblock;
 use pass_edges::along;
@@ -47,46 +42,39 @@ pub struct EdgeRun {
     pub level: u8,
 }
 
-// The level that a decision filters with: 0 where nothing is decided.
-fn level_of(d: Decision) -> u8
-    ensures { λ r. ⌜ r ≡ levelOf d ⌝ }
-{
-    if d.decided { d.level } else { 0 }
-}
-
-// The run that stands before the first cell: it joins with none, and filters nothing.
+// The run that stands before the first cell: it filters nothing, and joins with none that does.
 pub fn no_run() -> EdgeRun
-    ensures { λ r. ⌜ Fresh r ⌝ }
+    ensures { λ r. ⌜ Small r × (r .level ≡ 0) ⌝ }
 {
     EdgeRun {
         edge: 0,
-        first: 1,
+        first: 0,
         count: 0,
         size: 0,
         level: 0,
     }
 }
 
-// The positions of one cell along an edge, as a run by themselves.
-pub fn cell_run_unchecked(
-    cells: &[u32],
-    s: Superblock,
-    pass: Pass,
-    chroma: bool,
-    edge: usize,
-    c: usize,
-) -> EdgeRun
-    requires { ⌜ Placed s × (edge < edgeCount s pass) × (c < 8) × (cellsFrom (s .row) (s .cols) (s .rows) ≤ length (now cells)) ⌝ }
-    ensures { λ r. ⌜ (r ≡ cellRun s pass chroma (now (cells .entry)) edge c) × Small r ⌝ }
+// The key of cell c along an edge. The outer edges have the even numbers.
+pub fn key_at_unchecked(outer: &[u8; 64], inner: &[u8; 64], edge: usize, c: usize) -> u8
+    requires { ⌜ Keyed (now outer) (now inner) × (edge < 16) × (c < 8) ⌝ }
+    ensures { λ r. ⌜ (r ≡ keyFor (now (outer .entry)) (now (inner .entry)) edge c) × (r < 192) ⌝ }
 {
-    let first = along(s, pass, 8 * c);
-    let d = decide_unchecked(cells, s, pass, chroma, edge, first);
+    let k = 8 * (edge / 2) + c;
+    if edge % 2 == 0 { outer[k] } else { inner[k] }
+}
+
+// The positions of one cell along an edge, as a run by themselves.
+pub fn key_run_unchecked(s: Superblock, pass: Pass, key: u8, edge: usize, c: usize) -> EdgeRun
+    requires { ⌜ (key < 192) × (edge < edgeCount s pass) × (c < 8) ⌝ }
+    ensures { λ r. ⌜ (r ≡ keyRun s pass key edge c) × Small r ⌝ }
+{
     EdgeRun {
         edge,
-        first,
+        first: along(s, pass, 8 * c),
         count: along(s, pass, 8),
-        size: d.size,
-        level: level_of(d),
+        size: key / 64,
+        level: key % 64,
     }
 }
 

@@ -9,8 +9,8 @@ use lib.Dec.{ltb}
 use lib.ListN.{length}
 use borrow.Author.Tests.{ltb-false, not-false}
 use Rattle.base.specs.Depth.{supported}
-use Rattle.base.specs.First.{found}
-use Rattle.base.specs.Outcome.{Outcome, accepted, refused, refuse, Answers}
+use Rattle.base.specs.First.{found, refuseFirst}
+use Rattle.base.specs.Outcome.{Outcome, accepted, refused, refuse}
 use Rattle.base.specs.OutcomeLaws.{passed}
 use Rattle.base.specs.Tests.{neither}
 use Rattle.bad_words.specs.BadWord.{badCell}
@@ -19,6 +19,7 @@ use Rattle.decisions.specs.Decision.{levelless}
 use Rattle.geometry.specs.Frame.{badSubsampling, badFrameSize, badStart, cellsFrom}
 use Rattle.geometry.specs.FrameLaws.{flags}
 use Rattle.geometry.specs.declared.Pass.{Pass}
+use Rattle.geometry.specs.declared.Superblock.{Superblock}
 use Rattle.positions.specs.Positions.{Placed}
 use Rattle.pass_edges.specs.PassEdges.{edgeCount}
 use Rattle.positions.specs.PositionsLaws.{placed}
@@ -73,14 +74,28 @@ pub record Lists (g : WindowShape) (t : Setting) (pass : Pass) (samples : List �
   pub samples-good : found (badSample g (2 ^ t .depth) samples) (g .height * g .width) ≡ false
   pub levels-present : found (levelless (t .superblock) pass (t .chroma) (t .cells)) (64 * edgeCount (t .superblock) pass) ≡ false
 
+-- refusals 11 to 13, which the code tests before it decides anything
+abbrev pub lentRefused : {A : Type 0} → WindowShape → Superblock → (depth : ℕ) (cells samples : List ℕ) → Outcome A → Outcome A
+lentRefused g s depth cells samples after =
+    refuseFirst (badCell cells) (cellsFrom (s .row) (s .cols) (s .rows)) 11
+    (refuse (badWindow g (length samples)) 12 0
+    (refuseFirst (badSample g (2 ^ depth) samples) (g .height * g .width) 13
+    after))
+
+pub lent-passed : {A : Type 0} (g : WindowShape) (s : Superblock) (depth : ℕ) (cells samples : List ℕ) (after : Outcome A) {result : A} → lentRefused g s depth cells samples after ≡ accepted result
+    → (found (badCell cells) (cellsFrom (s .row) (s .cols) (s .rows)) ≡ false) × Lent g (length samples) × (found (badSample g (2 ^ depth) samples) (g .height * g .width) ≡ false) × (after ≡ accepted result)
+lent-passed g s depth cells samples after e =
+    let t11 = passed (found (badCell cells) (cellsFrom (s .row) (s .cols) (s .rows))) 11 _ _ e in
+    let t12 = passed (badWindow g (length samples)) 12 0 _ (t11 .1) in
+    let t13 = passed (found (badSample g (2 ^ depth) samples) (g .height * g .width)) 13 _ _ (t12 .1) in
+    (t11 .0, lent g (length samples) (t12 .0), t13 .0, t13 .1)
+
 pub lists-passed : {A : Type 0} (g : WindowShape) (t : Setting) (pass : Pass) (samples : List ℕ) (after : Outcome A) {result : A}
     → listsRefused g t pass samples after ≡ accepted result → Lists g t pass samples × (after ≡ accepted result)
 lists-passed g t pass samples after e =
-    let t11 = passed (found (badCell (t .cells)) (cellsFrom (t .superblock .row) (t .superblock .cols) (t .superblock .rows))) 11 _ _ e in
-    let t12 = passed (badWindow g (length samples)) 12 0 _ (t11 .1) in
-    let t13 = passed (found (badSample g (2 ^ t .depth) samples) (g .height * g .width)) 13 _ _ (t12 .1) in
-    let t14 = passed (found (levelless (t .superblock) pass (t .chroma) (t .cells)) (64 * edgeCount (t .superblock) pass)) 14 _ _ (t13 .1) in
-    (record { cells-good = t11 .0; window-lent = lent g (length samples) (t12 .0); samples-good = t13 .0; levels-present = t14 .0 }, t14 .1)
+    let l = lent-passed g (t .superblock) (t .depth) (t .cells) samples _ e in
+    let t14 = passed (found (levelless (t .superblock) pass (t .chroma) (t .cells)) (64 * edgeCount (t .superblock) pass)) 14 _ _ (l .3) in
+    (record { cells-good = l .0; window-lent = l .1; samples-good = l .2; levels-present = t14 .0 }, t14 .1)
 
 -- ---- the tests as the code makes them
 
@@ -152,6 +167,3 @@ numbers-any sharpness depth subX subY miCols miRows row col plane pass cellsLent
     then : andThen (numbersRefused sharpness depth subX subY miCols miRows row col plane pass cellsLent none) after
         ≡ numbersRefused sharpness depth subX subY miCols miRows row col plane pass cellsLent after
     then = simp refuse-then
-
-pub done-answer : (outcome : Outcome (List ℕ)) (samples result : List ℕ) → outcome ≡ accepted result → Answers outcome (returnedOf Done) samples result
-done-answer outcome samples result e = rw e (refl, refl)

@@ -8,20 +8,16 @@ ghost use Rattle.base.specs.Depth.{supported};
 ghost use Rattle.base.specs.Outcome.{Outcome};
 ghost use Rattle.positions.specs.Positions.{Placed};
 ghost use Rattle.geometry.specs.Frame.{cellsFrom};
-ghost use Rattle.decided.specs.Decided.{setting};
-ghost use Rattle.faults.specs.Faults.{numbersRefused, listsRefused, returnedOf};
-ghost use Rattle.faults.specs.FaultsLaws.{afterwards};
+ghost use Rattle.faults.specs.Faults.{numbersRefused, returnedOf};
+ghost use Rattle.faults.specs.FaultsLaws.{lentRefused, afterwards};
 use bad_words::any_bad_word_unchecked;
 use bad_words::first_bad_word_unchecked;
 use base::is_supported;
-use decisions::first_levelless_unchecked;
-use geometry::Pass;
 use geometry::Superblock;
 use geometry::bad_frame_size;
 use geometry::bad_start;
 use geometry::bad_subsampling;
 use geometry::cell_count_unchecked;
-use pass_edges::edge_count;
 use window::WindowShape;
 use window::any_bad_sample_unchecked;
 use window::bad_window;
@@ -137,19 +133,16 @@ pub fn number_faults(
     PassAnswer::Done
 }
 
-// Refusals 11 to 14, once the numbers are tested.
+// Refusals 11 to 13, once the numbers are tested. Refusal 14 is left to those who decide.
 pub fn list_faults_unchecked(
     samples: &[u16],
     g: WindowShape,
     cells: &[u32],
     s: Superblock,
-    pass: Pass,
-    chroma: bool,
-    sharpness: u8,
     depth: u8,
 ) -> PassAnswer
     requires { ⌜ Placed s × (cellsFrom (s .row) (s .cols) (s .rows) ≤ length (now cells)) × (supported depth ≡ true) ⌝ }
-    ensures { λ r. ⌜ ((after : Outcome (List ℕ)) → listsRefused g (setting s chroma sharpness depth (now (cells .entry))) pass (now (samples .entry)) after ≡ afterwards r after) ⌝ }
+    ensures { λ r. ⌜ ((after : Outcome (List ℕ)) → lentRefused g s depth (now (cells .entry)) (now (samples .entry)) after ≡ afterwards r after) ⌝ }
 {
     let count = cell_count_unchecked(s.row, s.cols, s.rows);
     if any_bad_word_unchecked(cells, count) {
@@ -161,10 +154,6 @@ pub fn list_faults_unchecked(
     let bound = sample_bound(depth);
     if any_bad_sample_unchecked(samples, g, bound) {
         return PassAnswer::Sample(first_bad_sample_unchecked(samples, g, bound));
-    }
-    let place = first_levelless_unchecked(cells, s, pass, chroma);
-    if place < 64 * edge_count(s, pass) {
-        return PassAnswer::Level(place);
     }
     PassAnswer::Done
 }

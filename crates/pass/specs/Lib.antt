@@ -1,5 +1,6 @@
 pub mod Pass
 pub mod WorkLaws
+pub mod WalkLaws
 pub mod PassLaws
 pub mod OrderOfWork
 pub mod PassRange

@@ -1,31 +1,32 @@
 // One pass over one superblock of a plane, as superblock_loop_filter_cells of the Rust's superblock_loop_filter.rs does it.
 ghost use mathlib.Core.Path.{_≡_};
 ghost use mathlib.Core.Bool.{true};
-ghost use Prim.Native.Nat.{_≤_};
+ghost use Prim.Native.Nat.{_*_, _≤_};
 ghost use lib.ListN.{length};
 ghost use Rattle.base.specs.Depth.{supported};
+ghost use Rattle.base.specs.First.{refuseFirst};
 ghost use Rattle.base.specs.Outcome.{accepted, Answers};
 ghost use Rattle.positions.specs.Positions.{Placed};
 ghost use Rattle.geometry.specs.Frame.{cellsFrom};
 ghost use Rattle.decided.specs.Decided.{setting};
+ghost use Rattle.decisions.specs.Decision.{levelless};
+ghost use Rattle.pass_edges.specs.PassEdges.{edgeCount};
 ghost use Rattle.faults.specs.Faults.{listsRefused, returnedOf};
 ghost use Rattle.pass.specs.Pass.{superblockLoopFilter, superblockLoopFilterCells};
 ghost use Rattle.pass.specs.WorkLaws.{Ready};
 
 mod edge;
 
-use decided::no_run;
 use decided::superblock_of;
-use edge::filter_edge;
-use edge::filter_pending;
+use decisions::first_levelless_unchecked;
+use edge::filter_keys;
 use faults::PassAnswer;
 use faults::list_faults_unchecked;
 use faults::number_faults;
 use geometry::Pass;
 use geometry::Superblock;
-use pass_edges::edge_count;
+use keys::keys_unchecked;
 use pass_edges::pass_of;
-use strength::limits_table;
 use window::WindowShape;
 
 // The work without the tests, for a caller that has made them. The superblock has the subsampling that holds in the plane.
@@ -42,25 +43,34 @@ pub fn superblock_loop_filter_unchecked(
     requires { ⌜ Ready g (setting s chroma sharpness depth (now cells)) (now samples) ⌝ }
     ensures { λ r. ⌜ now (samples .exit) ≡ superblockLoopFilter g (setting s chroma sharpness depth (now (cells .entry))) pass (now (samples .entry)) ⌝ }
 {
-    let count = edge_count(s, pass);
-    let limits = limits_table();
-    let mut pending = no_run();
-    for edge in 0..count {
-        pending = filter_edge(
-            samples,
-            g,
-            cells,
-            s,
-            pass,
-            chroma,
-            sharpness,
-            depth,
-            &limits,
-            edge,
-            pending,
-        );
+    let keys = keys_unchecked(cells, s, pass, chroma);
+    let outer = keys.outer;
+    let inner = keys.inner;
+    filter_keys(samples, g, s, pass, sharpness, depth, &outer, &inner);
+}
+
+// All but the levels is tested. The keys tell whether one lacks, and are what the work goes by: nothing is decided twice.
+fn test_levels_and_filter(
+    samples: &mut [u16],
+    g: WindowShape,
+    cells: &[u32],
+    s: Superblock,
+    pass: Pass,
+    chroma: bool,
+    sharpness: u8,
+    depth: u8,
+) -> PassAnswer
+    requires { ⌜ Ready g (setting s chroma sharpness depth (now cells)) (now samples) ⌝ }
+    ensures { λ r. ⌜ Answers (refuseFirst (levelless s pass chroma (now (cells .entry))) (64 * edgeCount s pass) 14 (accepted (superblockLoopFilter g (setting s chroma sharpness depth (now (cells .entry))) pass (now (samples .entry))))) (returnedOf r) (now (samples .entry)) (now (samples .exit)) ⌝ }
+{
+    let keys = keys_unchecked(cells, s, pass, chroma);
+    if keys.lacking {
+        return PassAnswer::Level(first_levelless_unchecked(cells, s, pass, chroma));
     }
-    filter_pending(samples, g, s, pass, sharpness, depth, &limits, pending);
+    let outer = keys.outer;
+    let inner = keys.inner;
+    filter_keys(samples, g, s, pass, sharpness, depth, &outer, &inner);
+    PassAnswer::Done
 }
 
 // The numbers are tested: now the lists, and then the work.
@@ -77,10 +87,9 @@ fn test_lists_and_filter(
     requires { ⌜ Placed s × (cellsFrom (s .row) (s .cols) (s .rows) ≤ length (now cells)) × (sharpness ≤ 7) × (supported depth ≡ true) ⌝ }
     ensures { λ r. ⌜ Answers (listsRefused g (setting s chroma sharpness depth (now (cells .entry))) pass (now (samples .entry)) (accepted (superblockLoopFilter g (setting s chroma sharpness depth (now (cells .entry))) pass (now (samples .entry))))) (returnedOf r) (now (samples .entry)) (now (samples .exit)) ⌝ }
 {
-    let faults = list_faults_unchecked(samples, g, cells, s, pass, chroma, sharpness, depth);
+    let faults = list_faults_unchecked(samples, g, cells, s, depth);
     if let PassAnswer::Done = faults {
-        superblock_loop_filter_unchecked(samples, g, cells, s, pass, chroma, sharpness, depth);
-        return PassAnswer::Done;
+        return test_levels_and_filter(samples, g, cells, s, pass, chroma, sharpness, depth);
     }
     faults
 }

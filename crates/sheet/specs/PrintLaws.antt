@@ -1,5 +1,5 @@
 -- Runs printed as they are joined: what is printed when a cell arrives, the run that may still grow, and that the runs of a pass are
--- what all its cells come to.
+-- what all its cells that filter come to.
 -- Assumes nothing.
 use mathlib.Core.Path.{_≡_, refl, sym, ap, _∙_}
 use mathlib.Core.Bool.{Bool, true, false, cond}
@@ -8,13 +8,14 @@ use Prim.Native.Nat.{ℕ, _+_, _*_, _≤_, _<_}
 use native.Mathlib.Omega.{arith}
 use borrow.Author.Tests.{lt-ltb, le-ltb}
 use lib.ListN.{length, length-append}
-use Rattle.decided.specs.CellWalk.{Fresh, closed, grown, walked, pending, walked-one, pending-one, walked-append, pending-append, walked-runs}
-use Rattle.decided.specs.Runs.{cellRun, joins, longer, runFilters, runs}
+use Rattle.decided.specs.CellWalk.{closed, grown, walked, pending, walked-one, pending-one, walked-append, pending-append, edgeCells, passCells, walked-runs}
+use Rattle.decided.specs.KeyRuns.{keyCell, keyRuns}
+use Rattle.decided.specs.Runs.{joins, longer, runFilters}
 use Rattle.decided.specs.RunsLaws.{Small}
 use Rattle.decided.specs.declared.EdgeRun.{EdgeRun}
 use Rattle.geometry.specs.declared.Pass.{Pass}
 use Rattle.geometry.specs.declared.Superblock.{Superblock}
-use Rattle.order.specs.Grid.{keep-if, select, select-append, strip, grid, strip-split, strips-split, grid-length, strip-length}
+use Rattle.order.specs.Grid.{keep-if, select, select-append, select-length, strip, grid, grid-length, strip-length}
 use Rattle.pass_edges.specs.PassEdges.{edgeCount}
 use Rattle.text.specs.Text.{Put}
 use Rattle.text.specs.TextLaws.{written-none, written-length, put-then}
@@ -62,30 +63,32 @@ unfolding runLines
 lines-none = refl
 
 -- the cell b, which the code has as next, is joined, or is pending in place of the run that was
-module _ (p : Printed) {next b : EdgeRun} (e : next ≡ b) where
+module _ (p : Printed) {next b : EdgeRun} {l : List EdgeRun} (one : b ∷ [] ≡ l) (e : next ≡ b) where
   pub fed-joins : (out : List ℕ) {more : EdgeRun} → joins (p .pending) next ≡ true → (more ≡ longer (p .pending) (next .count)) × Small more
-      → Fed (b ∷ []) p out out (record { at = p .at; pending = more })
+      → Fed l p out out (record { at = p .at; pending = more })
   unfolding fedText closed grown
   fed-joins out h made =
       let j : joins (p .pending) b ≡ true = rw e at h in
-      record {
+      rw (← one)
+      (record {
         put = rw (← walked-one (p .pending) b, j, ← lines-none) (put-none (p .at) out);
         pending-is = rw (← pending-one (p .pending) b, j) (rw e at (made .0));
         small = made .1;
         near = omega arith;
-      }
+      })
 
   pub fed-parts : {before after : List ℕ} {end : ℕ} → joins (p .pending) next ≡ false → Small next
-      → Put (p .at) (pendingText (p .pending)) before after end × (end ≤ p .at + 15) → Fed (b ∷ []) p before after (record { at = end; pending = next })
+      → Put (p .at) (pendingText (p .pending)) before after end × (end ≤ p .at + 15) → Fed l p before after (record { at = end; pending = next })
   unfolding fedText closed grown
   fed-parts h small put =
       let j : joins (p .pending) b ≡ false = rw e at h in
-      record {
+      rw (← one)
+      (record {
         put = rw (← walked-one (p .pending) b, j, ← pending-lines (p .pending)) (put .0);
         pending-is = rw (← pending-one (p .pending) b, j) e;
         small = small;
         near = put .1;
-      }
+      })
 
 -- ---- cells, and the next behind them
 
@@ -101,12 +104,9 @@ fed-text-append a l m =
     ∙ ap runLines (select-append runFilters (walked a l) (walked (pending a l) m))
     ∙ lines-append (select runFilters (walked a l)) (select runFilters (walked (pending a l) m))
 
-pub fresh-small : (a : EdgeRun) → Fresh a → Small a
-fresh-small a f = record { edge = omega arith; first = omega arith; count = omega arith; size = omega arith; level = omega arith }
-
-pub fed-none : (p : Printed) (out : List ℕ) → Small (p .pending) → Fed [] p out out p
+pub fed-none : {l : List EdgeRun} (p : Printed) (out : List ℕ) → [] ≡ l → Small (p .pending) → Fed l p out out p
 unfolding fedText walked pending runLines
-fed-none p out small = record { put = put-none (p .at) out; pending-is = refl; small = small; near = omega arith }
+fed-none p out none small = rw (← none) (record { put = put-none (p .at) out; pending-is = refl; small = small; near = omega arith })
 
 pub fed-then : {l m : List EdgeRun} {p q r : Printed} {before between after : List ℕ}
     → Fed l p before between q → Fed m q between after r → Fed (l ++ m) p before after r
@@ -123,35 +123,28 @@ fed-length {l} {p} {before = before} f = ap length (f .put .0) ∙ written-lengt
 
 -- ---- the cells of a pass
 
-module _ (s : Superblock) (pass : Pass) (chroma : Bool) (cells : List ℕ) where
+module _ (s : Superblock) (pass : Pass) (outer inner : List ℕ) where
   abbrev cellAt : (edge c : ℕ) → EdgeRun
-  cellAt = cellRun s pass chroma cells
+  cellAt = keyCell s pass outer inner
 
   -- so many cells end so near
-  pub strip-near : (edge c : ℕ) {p q : Printed} {before after : List ℕ} → Fed (strip cellAt edge 0 c) p before after q → q .at ≤ p .at + 15 * c
-  strip-near edge c f = omega (arith, f .near, strip-length cellAt edge 0 c)
+  pub edge-near : (edge c : ℕ) {p q : Printed} {before after : List ℕ} → Fed (edgeCells s pass outer inner edge c) p before after q → q .at ≤ p .at + 15 * c
+  unfolding edgeCells
+  edge-near edge c f = omega (arith, f .near, select-length runFilters (strip cellAt edge 0 c), strip-length cellAt edge 0 c)
 
-  pub grid-near : (edges : ℕ) {p q : Printed} {before after : List ℕ} → Fed (grid cellAt edges 8) p before after q → q .at ≤ p .at + 120 * edges
-  grid-near edges f = omega (arith, f .near, grid-length cellAt edges 8)
-
-  -- one more cell of an edge, and one more edge
-  pub fed-strip : (edge c : ℕ) {p q r : Printed} {before between after : List ℕ}
-      → Fed (strip cellAt edge 0 c) p before between q → Fed (cellAt edge c ∷ []) q between after r → Fed (strip cellAt edge 0 (c + 1)) p before after r
-  fed-strip edge c f g = rw (strip-split cellAt edge 0 c 1 c (omega arith)) (fed-then f g)
-
-  pub fed-grid : (edge : ℕ) {p q r : Printed} {before between after : List ℕ}
-      → Fed (grid cellAt edge 8) p before between q → Fed (strip cellAt edge 0 8) q between after r → Fed (grid cellAt (edge + 1) 8) p before after r
-  fed-grid edge f g = rw (strips-split cellAt 0 edge 1 8 edge (omega arith), append-nil (strip cellAt edge 0 8)) (fed-then f g)
+  pub pass-near : (edges : ℕ) {p q : Printed} {before after : List ℕ} → Fed (passCells s pass outer inner edges) p before after q → q .at ≤ p .at + 120 * edges
+  unfolding passCells
+  pass-near edges f = omega (arith, f .near, select-length runFilters (grid cellAt edges 8), grid-length cellAt edges 8)
 
   -- all cells, and then the run that is left pending
-  pub fed-all : {p q : Printed} {before between after : List ℕ} {end : ℕ} → Fresh (p .pending)
-      → Fed (grid cellAt (edgeCount s pass) 8) p before between q → Put (q .at) (pendingText (q .pending)) between after end
-      → Put (p .at) (runLines (runs s pass chroma cells)) before after end
+  pub fed-all : {p q : Printed} {before between after : List ℕ} {end : ℕ} → p .pending .level ≡ 0
+      → Fed (passCells s pass outer inner (edgeCount s pass)) p before between q → Put (q .at) (pendingText (q .pending)) between after end
+      → Put (p .at) (runLines (keyRuns s pass outer inner)) before after end
   unfolding fedText
-  fed-all {p} {before = before} fresh fed last =
-      let l = grid cellAt (edgeCount s pass) 8 in
-      let all : fedText (p .pending) l ++ pendingText (pending (p .pending) l) ≡ runLines (runs s pass chroma cells) =
+  fed-all {p} {before = before} none fed last =
+      let l = passCells s pass outer inner (edgeCount s pass) in
+      let all : fedText (p .pending) l ++ pendingText (pending (p .pending) l) ≡ runLines (keyRuns s pass outer inner) =
       ap (λ (t : List ℕ). fedText (p .pending) l ++ t) (pending-lines (pending (p .pending) l))
       ∙ sym (lines-append (select runFilters (walked (p .pending) l)) (select runFilters (pending (p .pending) l ∷ [])))
-      ∙ ap runLines (sym (select-append runFilters (walked (p .pending) l) (pending (p .pending) l ∷ [])) ∙ walked-runs s pass chroma cells (p .pending) fresh) in
+      ∙ ap runLines (sym (select-append runFilters (walked (p .pending) l) (pending (p .pending) l ∷ [])) ∙ walked-runs s pass outer inner (p .pending) none) in
       rw (← all) (put-then (p .at) _ _ before (fed .put) (rw (fed .pending-is) at last))

@@ -22,7 +22,7 @@ use faults::number_faults;
 use faults::number_of;
 use faults::place_of;
 use geometry::cell_count_unchecked;
-use pass_edges::edge_count;
+use keys::keys_unchecked;
 use pass_edges::pass_of;
 use runs::print_runs;
 use sheet_header::SheetHeader;
@@ -50,12 +50,15 @@ fn print_cells(out: &mut [u8], h: SheetHeader, cells: &[u32]) -> usize
     let s = superblock_of(h.subx, h.suby, h.cols, h.rows, h.row, h.col, h.plane);
     let pass = pass_of(h.pass);
     let chroma = 0 < h.plane;
-    let place = first_levelless_unchecked(cells, s, pass, chroma);
-    if place < 64 * edge_count(s, pass) {
+    let keys = keys_unchecked(cells, s, pass, chroma);
+    if keys.lacking {
+        let place = first_levelless_unchecked(cells, s, pass, chroma);
         return print_refusal_unchecked(out, 14, place);
     }
+    let outer = keys.outer;
+    let inner = keys.inner;
     let at = print_first_unchecked(out, h);
-    print_runs(out, at, cells, s, pass, chroma)
+    print_runs(out, at, s, pass, &outer, &inner)
 }
 
 // The numbers are tested: the words behind the header are the cells.

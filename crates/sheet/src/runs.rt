@@ -1,20 +1,16 @@
 // The runs of a pass, printed as they are joined.
-ghost use mathlib.Core.Path.{_≡_};
-ghost use mathlib.Core.List.{_∷_, []};
 ghost use Prim.Native.Nat.{_+_, _≤_, _<_};
-ghost use lib.ListN.{length};
-ghost use Rattle.decided.specs.Runs.{cellRun, runs};
+ghost use Rattle.decided.specs.CellWalk.{keyKept, edgeCells};
+ghost use Rattle.decided.specs.KeyRuns.{keyRuns, Keyed};
 ghost use Rattle.decided.specs.RunsLaws.{Small};
-ghost use Rattle.geometry.specs.Frame.{cellsFrom};
-ghost use Rattle.order.specs.Grid.{strip};
-ghost use Rattle.positions.specs.Positions.{Placed};
 ghost use Rattle.pass_edges.specs.PassEdges.{edgeCount};
 ghost use Rattle.text.specs.Text.{Put};
 ghost use Rattle.sheet_lines.specs.SheetLines.{runLines};
 ghost use Rattle.sheet.specs.PrintLaws.{pendingText, Fed};
 use decided::EdgeRun;
-use decided::cell_run_unchecked;
 use decided::joins_unchecked;
+use decided::key_at_unchecked;
+use decided::key_run_unchecked;
 use decided::longer_unchecked;
 use decided::no_run;
 use geometry::Pass;
@@ -39,21 +35,24 @@ fn print_pending(out: &mut [u8], at: usize, a: EdgeRun) -> usize
     at
 }
 
+// A cell of level 0 leaves the run as it is: no later cell starts where it ends.
 fn print_cell(
     out: &mut [u8],
     p: Printed,
-    cells: &[u32],
     s: Superblock,
     pass: Pass,
-    chroma: bool,
+    key: u8,
     edge: usize,
     c: usize,
 ) -> Printed
-    requires { ⌜ (p .at ≤ 32768) × Small (p .pending) × Placed s × (edge < edgeCount s pass) × (c < 8) × (cellsFrom (s .row) (s .cols) (s .rows) ≤ length (now cells)) ⌝ }
-    ensures { λ r. ⌜ Fed (cellRun s pass chroma (now (cells .entry)) edge c ∷ []) p (now (out .entry)) (now (out .exit)) r ⌝ }
+    requires { ⌜ (p .at ≤ 32768) × Small (p .pending) × (key < 192) × (edge < edgeCount s pass) × (c < 8) ⌝ }
+    ensures { λ r. ⌜ Fed (keyKept s pass key edge c) p (now (out .entry)) (now (out .exit)) r ⌝ }
 {
+    if key % 64 == 0 {
+        return p;
+    }
     let pending = p.pending;
-    let next = cell_run_unchecked(cells, s, pass, chroma, edge, c);
+    let next = key_run_unchecked(s, pass, key, edge, c);
     if joins_unchecked(pending, next) {
         return Printed {
             at: p.at,
@@ -69,18 +68,19 @@ fn print_cell(
 fn print_edge(
     out: &mut [u8],
     start: Printed,
-    cells: &[u32],
     s: Superblock,
     pass: Pass,
-    chroma: bool,
+    outer: &[u8; 64],
+    inner: &[u8; 64],
     edge: usize,
 ) -> Printed
-    requires { ⌜ (start .at ≤ 16384) × Small (start .pending) × Placed s × (edge < edgeCount s pass) × (cellsFrom (s .row) (s .cols) (s .rows) ≤ length (now cells)) ⌝ }
-    ensures { λ r. ⌜ Fed (strip (cellRun s pass chroma (now (cells .entry))) edge 0 8) start (now (out .entry)) (now (out .exit)) r ⌝ }
+    requires { ⌜ (start .at ≤ 16384) × Small (start .pending) × Keyed (now outer) (now inner) × (edge < edgeCount s pass) ⌝ }
+    ensures { λ r. ⌜ Fed (edgeCells s pass (now (outer .entry)) (now (inner .entry)) edge 8) start (now (out .entry)) (now (out .exit)) r ⌝ }
 {
     let mut p = start;
     for c in 0..8 {
-        p = print_cell(out, p, cells, s, pass, chroma, edge, c);
+        let key = key_at_unchecked(outer, inner, edge, c);
+        p = print_cell(out, p, s, pass, key, edge, c);
     }
     p
 }
@@ -88,20 +88,20 @@ fn print_edge(
 pub(crate) fn print_runs(
     out: &mut [u8],
     at: usize,
-    cells: &[u32],
     s: Superblock,
     pass: Pass,
-    chroma: bool,
+    outer: &[u8; 64],
+    inner: &[u8; 64],
 ) -> usize
-    requires { ⌜ (at ≤ 1024) × Placed s × (cellsFrom (s .row) (s .cols) (s .rows) ≤ length (now cells)) ⌝ }
-    ensures { λ r. ⌜ Put at (runLines (runs s pass chroma (now (cells .entry)))) (now (out .entry)) (now (out .exit)) r ⌝ }
+    requires { ⌜ (at ≤ 1024) × Keyed (now outer) (now inner) ⌝ }
+    ensures { λ r. ⌜ Put at (runLines (keyRuns s pass (now (outer .entry)) (now (inner .entry)))) (now (out .entry)) (now (out .exit)) r ⌝ }
 {
     let mut p = Printed {
         at,
         pending: no_run(),
     };
     for edge in 0..edge_count(s, pass) {
-        p = print_edge(out, p, cells, s, pass, chroma, edge);
+        p = print_edge(out, p, s, pass, outer, inner, edge);
     }
     print_pending(out, p.at, p.pending)
 }

@@ -1,13 +1,10 @@
 use borrow.Author.Needs.{needs}
-use mathlib.Core.Bool.{false}
 use mathlib.Core.Path.{_≡_, sym, _∙_}
 use Prim.Native.Nat.{ℕ, _*_, _^_}
 use lib.ListN.{length}
 use Rattle.base.specs.First.{found}
-use Rattle.base.specs.FirstLaws.{first-below, first-past}
-use Rattle.decisions.specs.Decision.{levelless}
 use Rattle.geometry.specs.Frame.{cellsFrom}
-use Rattle.window.specs.Window.{badWindow, badSample}
+use Rattle.window.specs.Window.{badSample}
 use Rattle.window.specs.WindowLaws.{Lent, lent}
 use Rattle.bad_words.specs.BadWord.{badCell}
 use Rattle.faults.proofs.list_faults_unchecked.Statement.{statement}
@@ -36,9 +33,6 @@ at3 c = at2 (c .before .before .before)
 samples : (c : tie.After-any-bad-sample-unchecked) → c .any-bad-sample-unchecked .result ≡ found (badSample (at3 c .args .g) (2 ^ at3 c .args .depth) (at3 c .args .samples .now)) (at3 c .args .g .height * at3 c .args .g .width)
 samples c = rw (c .before .sample-bound .ensures) at (c .any-bad-sample-unchecked .ensures)
 
-abbrev at4 : tie.After-edge-count → tie.Start
-at4 c = at3 (c .before .before .before)
-
 returns : tie.Need-returns
 returns c =
     let hit = sym (cells (c .before .before)) ∙ c .before .if1 .taken in
@@ -58,35 +52,11 @@ returns-3 c =
     let place = rw (c .before .before .before .sample-bound .ensures) at (c .first-bad-sample-unchecked .ensures) in
     λ after. rw (good, shape, hit, place)
 
--- what is known once the samples are good
-module _ (c : tie.Else3) where
-  abbrev s : tie.Start
-  s = at3 (c .before)
-
-  good-cells : found (badCell (s .args .cells .now)) (count s) ≡ false
-  good-cells = sym (cells (c .before .before .before .before .before .before)) ∙ c .before .before .before .before .before .if1 .left
-
-  good-window : badWindow (s .args .g) (length (s .args .samples .now)) ≡ false
-  good-window = sym (c .before .before .before .before .bad-window .ensures) ∙ c .before .before .before .if2 .left
-
-  good-samples : found (badSample (s .args .g) (2 ^ s .args .depth) (s .args .samples .now)) (s .args .g .height * s .args .g .width) ≡ false
-  good-samples = sym (samples (c .before)) ∙ c .if3 .left
-
 returns-4 : tie.Need-returns-4
 returns-4 c =
-    let three = c .before .before .before in
-    let s = at3 (three .before) in
-    let place = c .before .before .first-levelless-unchecked .ensures in
-    let few = rw (c .before .edge-count .ensures .0, place) at (c .if4 .taken) in
-    λ after. rw (good-cells three, good-window three, good-samples three, first-below (levelless (s .args .s) (s .args .pass) (s .args .chroma) (s .args .cells .now)) _ few, place)
-
-returns-5 : tie.Need-returns-5
-returns-5 c =
-    let three = c .before .before .before in
-    let s = at3 (three .before) in
-    let place = c .before .before .first-levelless-unchecked .ensures in
-    let all = rw (c .before .edge-count .ensures .0, place) at (c .if4 .left) in
-    λ after. rw (good-cells three, good-window three, good-samples three, first-past (levelless (s .args .s) (s .args .pass) (s .args .chroma) (s .args .cells .now)) _ all)
+    let good = sym (cells (c .before .before .before .before .before .before)) ∙ c .before .before .before .before .before .if1 .left in
+    let shape = sym (c .before .before .before .before .bad-window .ensures) ∙ c .before .before .before .if2 .left in
+    λ after. rw (good, shape, sym (samples (c .before)) ∙ c .if3 .left)
 
 pub list-faults-unchecked-spec : {M : Type 1} → statement M
 list-faults-unchecked-spec =
@@ -102,8 +72,4 @@ list-faults-unchecked-spec =
     (λ c κs. window (c .before))
     (λ c κs. window (c .before .before .before))
     returns-3
-    (search needs)
-    (search needs)
-    (search needs)
-    returns-4
-    returns-5)
+    returns-4)

@@ -1,45 +1,52 @@
 use borrow.Author.Needs.{needs}
 use mathlib.Core.Path.{sym, _∙_}
-use Rattle.decided.specs.CellRunLaws.{cellAt}
-use Rattle.decided.specs.Decided.{Setting, setting}
+use native.Mathlib.Omega.{arith}
+use Rattle.decided.specs.CellWalk.{kept-none, kept-one}
 use Rattle.decided.specs.JoinLaws.{joins-true}
-use Rattle.decided.specs.declared.EdgeRun.{EdgeRun}
-use Rattle.pass.specs.WorkLaws.{Good, cell-good, filtered-done, walk-joins, walk-parts}
+use Rattle.pass.specs.WalkLaws.{walk-none, walk-joins, walk-parts}
 use Rattle.pass.proofs.edge.filter_cell.Statement.{statement}
 use Rattle.pass.proofs.edge.filter_cell.Tie as tie
 
--- the setting of the call, and the cell that arrives
-abbrev given : tie.Start → Setting
-given c = setting (c .args .s) (c .args .chroma) (c .args .sharpness) (c .args .depth) (c .args .cells .now)
-
-abbrev cell : tie.Start → EdgeRun
-cell c = cellAt (given c) (c .args .pass) (c .args .edge) (c .args .c)
-
-good : (c : tie.Start) → Good (given c) (c .args .pass) (cell c)
-good c = cell-good (given c) (c .args .pass) (c .args .edge) (c .args .c) (c .pre .1) (c .pre .2)
+returns : tie.Need-returns
+returns c =
+    let start = c .before .before in
+    let a = start .args in
+    walk-none (a .pending) _ (kept-none (a .s) (a .pass) (a .key) (a .edge) (a .c) (c .if1 .taken)) (start .pre .4)
 
 longer-unchecked-requires : tie.Need-longer-unchecked-requires
 longer-unchecked-requires c κs =
     let start = c .before .before .before .before .before in
-    (start .pre .3 .small, joins-true (start .args .pending) (c .before .before .cell-run-unchecked .result) (sym (c .before .joins-unchecked .ensures) ∙ c .if1 .taken) .count)
-
-returns : tie.Need-returns
-returns c =
-    let start = c .before .before .before .before .before .before in
-    walk-joins (start .args .g) (given start) (start .args .pass) (start .args .pending) (cell start) (start .pre .3) (good start) (c .before .before .before .cell-run-unchecked .result) (c .before .before .before .cell-run-unchecked .ensures .0)
-    _ _ (sym (c .before .before .joins-unchecked .ensures) ∙ c .before .if1 .taken) (c .longer-unchecked .ensures .0)
-
-filter-pending-requires : tie.Need-filter-pending-requires
-filter-pending-requires c κs =
-    let p = c .before .before .before .before .before .before .pre in
-    (p .0 .window, p .0 .range, p .0 .placed, p .3 .small, p .0 .sharpness, p .0 .depth, p .4)
+    (start .pre .4, joins-true _ _ (sym (c .before .joins-unchecked .ensures) ∙ c .if2 .taken) .count)
 
 returns-2 : tie.Need-returns-2
 returns-2 c =
-    let start = c .before .before .before .before .before .before .before .before .before in
-    walk-parts (start .args .g) (given start) (start .args .pass) (start .args .pending) (cell start) (start .pre .3) (good start) (c .before .before .before .before .before .before .cell-run-unchecked .result) (c .before .before .before .before .before .before .cell-run-unchecked .ensures .0)
-    _ _ (sym (c .before .before .before .before .before .joins-unchecked .ensures) ∙ c .before .before .before .before .if1 .left)
-    (c .before .before .filter-pending .ensures ∙ filtered-done (start .args .g) (given start) (start .args .pass) (start .args .pending) (start .pre .3 .uniform) _)
+    let test = c .before .before in
+    let next = test .before in
+    let a = next .before .before .before .args in
+    walk-joins (kept-one (a .s) (a .pass) (a .key) (a .edge) (a .c) (omega (arith, next .before .if1 .left))) (next .key-run-unchecked .ensures .0)
+    _ (sym (test .joins-unchecked .ensures) ∙ c .before .if2 .taken) (c .longer-unchecked .ensures)
+
+filter-pending-requires : tie.Need-filter-pending-requires
+filter-pending-requires c κs = let p = c .before .before .before .before .before .before .pre in (p .0, p .4, p .5)
+
+returns-3 : tie.Need-returns-3
+returns-3 c =
+    let at-if = c .before .before .before .before in
+    let test = at-if .before in
+    let next = test .before in
+    let a = next .before .before .before .args in
+    walk-parts (kept-one (a .s) (a .pass) (a .key) (a .edge) (a .c) (omega (arith, next .before .if1 .left))) (next .key-run-unchecked .ensures .0)
+    (sym (test .joins-unchecked .ensures) ∙ at-if .if2 .left) (next .key-run-unchecked .ensures .1) (c .before .before .filter-pending .ensures)
 
 pub filter-cell-spec : {M : Type 1} → statement M
-filter-cell-spec = tie.close (tie.spec (search needs) (search needs) longer-unchecked-requires returns filter-pending-requires (search needs) returns-2)
+filter-cell-spec =
+    tie.close
+    (tie.spec
+    returns
+    (search needs)
+    (search needs)
+    longer-unchecked-requires
+    returns-2
+    filter-pending-requires
+    (search needs)
+    returns-3)

@@ -6,12 +6,12 @@ use Rattle.pass.proofs.edge.filter_pending.Statement.{statement}
 use Rattle.pass.proofs.edge.filter_pending.Tie as tie
 
 strength-by-unchecked-requires : tie.Need-strength-by-unchecked-requires
-strength-by-unchecked-requires c κs = let p = c .before .before .before .before .before .pre in (p .6, p .3 .level, p .4)
+strength-by-unchecked-requires c κs = let p = c .before .before .before .before .before .pre in (p .2, p .1 .level, p .0 .sharp)
 
 filter-run-unchecked-requires : tie.Need-filter-run-unchecked-requires
 filter-run-unchecked-requires c κs =
     let p = c .before .before .before .before .before .before .before .pre in
-    (p .0, omega (arith, c .before .before .before .plane-x-unchecked .ensures .1), omega (arith, c .before .before .plane-y-unchecked .ensures .1), p .3 .count, p .5, p .3 .size, range-wider _ _ 4096 _ (depth-12 _ (p .5)) (p .1))
+    (p .0 .window, omega (arith, c .before .before .before .plane-x-unchecked .ensures .1), omega (arith, c .before .before .plane-y-unchecked .ensures .1), p .1 .count, p .0 .deep, p .1 .size, range-wider _ _ 4096 _ (depth-12 _ (p .0 .deep)) (p .0 .range))
 
 returns : tie.Need-returns
 returns c =
