@@ -1,1 +1,5 @@
 pub mod Keys
+pub mod PlainKeys
+pub mod PlainKeysLaws
+pub mod EdgeLimitsLaws
+pub mod KeysLaws
