@@ -1,4 +1,4 @@
-//! What libvpx computes: strength.tsv, the lines of lines.bin.xz and the frames of quick.tar.xz.
+//! What libvpx computes: strength.tsv, the lines of lines.bin.xz and the frames of quick.tar.xz, and a large one.
 
 mod calls;
 mod frame;
@@ -36,10 +36,15 @@ pub fn strengths(folder: &Path) -> Vec<[u8; 5]> {
     text.lines().skip(1).map(record).collect()
 }
 
-pub fn lines(folder: &Path) -> Vec<Filtered> {
-    let xz = Command::new("xz").arg("-dc").arg(folder.join("lines.bin.xz")).output().unwrap();
+fn unpacked(file: &Path) -> Vec<u8> {
+    let xz = Command::new("xz").arg("-dc").arg(file).output().unwrap();
     assert!(xz.status.success());
-    let (records, rest) = xz.stdout.as_chunks();
+    xz.stdout
+}
+
+pub fn lines(folder: &Path) -> Vec<Filtered> {
+    let lines = unpacked(&folder.join("lines.bin.xz"));
+    let (records, rest) = lines.as_chunks();
     assert!(rest.is_empty());
     records.iter().map(filtered).collect()
 }
@@ -54,6 +59,15 @@ fn filtered(record: &[u8; 72]) -> Filtered {
         line: Line { depth, size, strength, taps: array::from_fn(sample) },
         after: array::from_fn(|k| sample(16 + k)),
     }
+}
+
+/// A frame of a film in 1080p, which is not among the small ones.
+pub const LARGE: &str = "mix-0000.lfd.xz";
+
+/// That frame, if it is at hand.
+pub fn large_frame(folder: &Path) -> Option<Frame> {
+    let file = folder.join(LARGE);
+    file.is_file().then(|| Frame::from_bytes(LARGE.into(), &unpacked(&file)))?
 }
 
 /// The frames by name. Those of filter level 0 are left out: a decoder does not filter them.

@@ -34,7 +34,11 @@ impl Frame {
     /// None for a frame of filter level 0.
     pub fn read(file: &Path) -> Option<Frame> {
         let name = file.file_name().unwrap().to_string_lossy().into_owned();
-        let bytes = fs::read(file).unwrap();
+        Frame::from_bytes(name, &fs::read(file).unwrap())
+    }
+
+    /// The same for the bytes of such a file.
+    pub(super) fn from_bytes(name: String, bytes: &[u8]) -> Option<Frame> {
         assert_eq!(&bytes[..8], b"VP9LFD02", "{name}");
         let field = |k: usize| i32::from_le_bytes(bytes[8 + 4 * k..][..4].try_into().unwrap());
         let flag = |k: usize| field(k) != 0;

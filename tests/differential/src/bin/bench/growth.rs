@@ -60,6 +60,7 @@ fn point(quarters: [Kind; 4]) {
     let windows = [0, 1, 2].map(|plane| window(&frame, row.base, MARGIN, plane));
     let before = planes(&mut Random(51), &windows, DEPTH, "mixed");
     let passes = Superblocks::new(&row, 8..mi_cols - 8, windows, before);
+    assert!(passes.change(), "nothing is filtered");
     let (positions, at_border) = passes.positions();
     assert_eq!(at_border, 0, "positions at the window's border");
     let positions = positions / SUPERBLOCKS;

@@ -8,6 +8,8 @@ mod cells;
 #[cfg(oracle)]
 mod edges;
 #[cfg(oracle)]
+mod frame;
+#[cfg(oracle)]
 mod growth;
 #[cfg(oracle)]
 mod levels;
@@ -63,5 +65,6 @@ fn passes() {
 #[cfg(oracle)]
 fn pass_rows() {
     passes::rows();
+    frame::rows();
     range::rows();
 }

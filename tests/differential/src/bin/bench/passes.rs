@@ -107,5 +107,7 @@ fn superblocks(shape: &Shape, depth: u8, kind: &str) -> Superblocks {
     let row = Row { frame, base: BASE, levels, blocks: mixed(&mut random, mi_cols) };
     let windows = [0, 1, 2].map(|plane| window(&frame, BASE, below, plane));
     let before = planes(&mut random, &windows, depth, kind);
-    Superblocks::new(&row, 0..mi_cols, windows, before)
+    let passes = Superblocks::new(&row, 0..mi_cols, windows, before);
+    assert!(passes.change(), "nothing is filtered");
+    passes
 }

@@ -33,9 +33,13 @@ impl Superblocks {
         let mut all = Superblocks { frame, base, columns, windows, words, cells, before, after };
         let mut after = all.before.clone();
         all.checked(&mut after);
-        assert!(after != all.before, "nothing is filtered");
         all.after = after;
         all
+    }
+
+    /// Whether the passes change a sample at all.
+    pub fn change(&self) -> bool {
+        self.after != self.before
     }
 
     /// How many positions are filtered in all passes, and how many of them read past the window.
