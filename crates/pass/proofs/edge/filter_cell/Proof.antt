@@ -27,7 +27,7 @@ returns-2 c =
     _ (sym (test .joins-unchecked .ensures) ∙ c .before .if2 .taken) (c .longer-unchecked .ensures)
 
 filter-pending-requires : tie.Need-filter-pending-requires
-filter-pending-requires c κs = let p = c .before .before .before .before .before .before .pre in (p .0, p .4, p .5)
+filter-pending-requires c κs = let p = c .before .before .before .before .before .before .pre in (p .0, search needs, p .5)
 
 returns-3 : tie.Need-returns-3
 returns-3 c =
