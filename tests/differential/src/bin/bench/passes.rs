@@ -42,6 +42,7 @@ pub fn rows() {
     for depth in DEPTHS {
         work(&INSIDE, depth, "mixed");
     }
+    deciding(&ROW);
     println!(
         "the entry tests all samples of its window at each call, so those of a row many times"
     );
@@ -64,6 +65,14 @@ fn work(shape: &Shape, depth: u8, kind: &str) {
     row(&name, RUNS, luma(shape), || passes.unchecked(&mut ours), || passes.rust(&mut rust));
     passes.compare(&name, &ours);
     passes.compare(&name, &rust);
+}
+
+/// The same where every level is 0: all is decided, and nothing is filtered.
+fn deciding(shape: &Shape) {
+    let name = format!("work, {}, level 0: deciding", shape.name);
+    let passes = at_levels(shape, 8, "mixed", |_| 0);
+    let (mut ours, mut rust) = Default::default();
+    row(&name, RUNS, luma(shape), || passes.unchecked(&mut ours), || passes.rust(&mut rust));
 }
 
 /// The same for the entry.
@@ -100,14 +109,24 @@ fn luma(shape: &Shape) -> usize {
 }
 
 fn superblocks(shape: &Shape, depth: u8, kind: &str) -> Superblocks {
+    let passes = at_levels(shape, depth, kind, |random| random.between(16, 40) as u8);
+    assert!(passes.change(), "nothing is filtered");
+    passes
+}
+
+/// The superblocks of a shape, with such levels.
+fn at_levels(
+    shape: &Shape,
+    depth: u8,
+    kind: &str,
+    level: impl Fn(&mut Random) -> u8,
+) -> Superblocks {
     let &Shape { mi_cols, below, .. } = shape;
     let frame = Frame { sharpness: 0, bit_depth: depth, sub_x: 1, sub_y: 1, mi_cols, mi_rows: 135 };
     let mut random = Random(34);
-    let levels = [(); 64].map(|()| random.between(16, 40) as u8);
+    let levels = [(); 64].map(|()| level(&mut random));
     let row = Row { frame, base: BASE, levels, blocks: mixed(&mut random, mi_cols) };
     let windows = [0, 1, 2].map(|plane| window(&frame, BASE, below, plane));
     let before = planes(&mut random, &windows, depth, kind);
-    let passes = Superblocks::new(&row, 0..mi_cols, windows, before);
-    assert!(passes.change(), "nothing is filtered");
-    passes
+    Superblocks::new(&row, 0..mi_cols, windows, before)
 }
