@@ -71,7 +71,15 @@ fn filter_cell(
     if joins_unchecked(pending, next) {
         return longer_unchecked(pending, next.count);
     }
-    filter_pending(samples, g, s, pass, sharpness, depth, limits, pending);
+    // A copy for the call alone: the run itself stays in registers.
+    let closed = EdgeRun {
+        edge: pending.edge,
+        first: pending.first,
+        count: pending.count,
+        size: pending.size,
+        level: pending.level,
+    };
+    filter_pending(samples, g, s, pass, sharpness, depth, limits, closed);
     next
 }
 
