@@ -78,18 +78,3 @@ first-nowhere test n none = from n 0 (omega arith)
     from : (m k : ℕ) → k + m ≡ n → firstFrom test k m ≡ n
     from zero k e = omega arith
     from (suc m) k e = rw (found-false test n none k (omega arith)) (from m (k + 1) (omega arith))
-
--- a search that ends among the n places has found one, and one that ends behind them has not
-pub first-below : (test : ℕ → Bool) (n : ℕ) → first test n < n → found test n ≡ true
-first-below test n h = cases (found test n) refl
-  where
-    cases : (b : Bool) → found test n ≡ b → found test n ≡ true
-    cases true e = e
-    cases false e = absurd (omega (arith, first-nowhere test n e))
-
-pub first-past : (test : ℕ → Bool) (n : ℕ) → n ≤ first test n → found test n ≡ false
-first-past test n h = cases (found test n) refl
-  where
-    cases : (b : Bool) → found test n ≡ b → found test n ≡ false
-    cases true e = absurd (omega (arith, first-is test n e .to))
-    cases false e = e
