@@ -103,7 +103,7 @@ fn cell_index(s: Superblock, x: Luma, y: Luma) -> usize
 }
 
 // The cells are those of the superblock's row. Off the screen there is no cell to read.
-pub fn decide_unchecked(
+fn decide_unchecked(
     cells: &[u32],
     s: Superblock,
     pass: Pass,

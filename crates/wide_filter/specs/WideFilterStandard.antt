@@ -5,7 +5,6 @@ use mathlib.Core.List.{List, [], _∷_}
 use Prim.Native.Nat.{ℕ, zero, suc, _+_, _-_, _≤_, _<_}
 use native.Mathlib.Omega.{arith}
 use lib.IntN.{ℤ, pos, negsuc, _+ℤ_, _-ℤ_}
-use lib.ListN.{length}
 use lib.Signed.{mag}
 use Rattle.base.specs.Filled.{filled, filled-same}
 use Rattle.base.specs.Notation.{Clip3}
@@ -19,9 +18,6 @@ abbrev pub tapsOf : Std.Line → List ℕ
 tapsOf l =
     l .p 7 ∷ l .p 6 ∷ l .p 5 ∷ l .p 4 ∷ l .p 3 ∷ l .p 2 ∷ l .p 1 ∷ l .p 0
     ∷ l .q 0 ∷ l .q 1 ∷ l .q 2 ∷ l .q 3 ∷ l .q 4 ∷ l .q 5 ∷ l .q 6 ∷ l .q 7 ∷ []
-
-pub taps-length : (l : Std.Line) → length (tapsOf l) ≡ 16
-taps-length l = refl
 
 -- ---- each tap of the list
 
