@@ -6,3 +6,4 @@ pub mod OrderOfWork
 pub mod PassRange
 pub mod PassFront
 pub mod Cases
+pub mod PassWidths
