@@ -22,6 +22,8 @@ use Rattle.geometry.specs.Coordinates.{shr}
 use Rattle.geometry.specs.declared.Pass.{Pass}
 use Rattle.geometry.specs.declared.Superblock.{Superblock}
 use Rattle.keys.specs.Keys.{keyOf, keyAt, keysOf}
+use Rattle.lanes.specs.KeyLine.{keyLine}
+use Rattle.lanes.specs.KeyLineLaws.{key-line-on, key-line-off}
 use Rattle.line.specs.SampleFiltering.{sampleFiltering}
 use Rattle.order.specs.Grid.{strip, grid, grid-all, strips-split}
 use Rattle.order.specs.Order.{run}
@@ -39,22 +41,12 @@ use Rattle.window.specs.StencilLaws.{in-turn-none, in-turn-length, in-turn-spli
 use Rattle.window.specs.Window.{stencil, alongX, alongY}
 use Rattle.window.specs.declared.WindowShape.{WindowShape}
 use Rattle.pass.specs.Pass.{lineOf, step, superblockLoopFilter}
-use Rattle.pass.specs.Chunks.{keyLine, keyStencil, keyedRun, keyAlong, keyed, chunk, edgeChunks, passChunks}
+use Rattle.pass.specs.Chunks.{keyStencil, keyedRun, keyAlong, keyed, chunk, edgeChunks, passChunks}
 use Rattle.pass.specs.WorkLaws.{Able, able-after, either, line-keeps, plane-along}
 
 -- ---- the line filter of a key, and the position that is filtered by it
 
 module _ (sharpness depth key : ℕ) where
-  pub line-on : (st : FilterStrength) → 0 < key % 64 → st ≡ strengthOf (key % 64) sharpness
-      → sampleFiltering depth (key / 64) (st .limit) (st .blimit) (st .thresh) ≡ keyLine sharpness depth key
-  unfolding keyLine
-  line-on st on is = rw (lt-ltb 0 (key % 64) on) (λ i. sampleFiltering depth (key / 64) (is i .limit) (is i .blimit) (is i .thresh))
-
-  -- level 0 leaves the line
-  pub line-off : ltb 0 (key % 64) ≡ false → (line : List ℕ) → keyLine sharpness depth key line ≡ line
-  unfolding keyLine
-  line-off off line = rw off
-
   key-keeps : supported depth ≡ true → Keeps (2 ^ depth) (keyLine sharpness depth key)
   unfolding keyLine
   key-keeps deep = either (Keeps (2 ^ depth)) (ltb 0 (key % 64)) (line-keeps depth (key / 64) _ _ _ deep) (record { keep = λ taps h. h })
@@ -63,7 +55,7 @@ module _ (sharpness depth key : ℕ) where
     -- what the code does where the level is above 0, and where it is 0
     pub keyed-on : (st : FilterStrength) → 0 < key % 64 → st ≡ strengthOf (key % 64) sharpness
         → applied (stencil g pass x y true (sampleFiltering depth (key / 64) (st .limit) (st .blimit) (st .thresh))) samples ≡ applied (keyStencil g pass x y sharpness depth key) samples
-    keyed-on st on is = λ i. applied (stencil g pass x y (sym (lt-ltb 0 (key % 64) on) i) (line-on st on is i)) samples
+    keyed-on st on is = λ i. applied (stencil g pass x y (sym (lt-ltb 0 (key % 64) on) i) (key-line-on sharpness depth key st on is i)) samples
 
     pub keyed-off : key % 64 ≡ 0 → applied (keyStencil g pass x y sharpness depth key) samples ≡ samples
     keyed-off off = stencil-idle g pass x y (ltb 0 (key % 64)) (keyLine sharpness depth key) samples (le-ltb 0 (key % 64) (omega arith))
@@ -134,7 +126,7 @@ module _ (g : WindowShape) (s : Superblock) (pass : Pass) (sharpness depth : ℕ
           → inTurn (plainLines (firstTap g pass x y) (tapStep g pass) (alongStep g pass) (λ k. keyLine sharpness depth (keys k))) n samples
           ≡ chunk g s pass sharpness depth outer inner edge first n samples
       chunk-inside inside =
-          lines-plain g pass x y n (λ k. ltb 0 (keys k % 64)) (λ k. keyLine sharpness depth (keys k)) samples (λ k. line-off sharpness depth (keys k)) inside ∙ chunk-along
+          lines-plain g pass x y n (λ k. ltb 0 (keys k % 64)) (λ k. keyLine sharpness depth (keys k)) samples (λ k. key-line-off sharpness depth (keys k)) inside ∙ chunk-along
 
   pub edge-chunks-none : (edge : ℕ) (samples : List ℕ) → samples ≡ edgeChunks g s pass sharpness depth outer inner edge 0 samples
   unfolding edgeChunks
@@ -271,7 +263,7 @@ module _ (g : WindowShape) (t : Setting) (pass : Pass) (outer inner : List ℕ)
         by true e (yes l) =
             let size : key / 64 ≡ d .size = ap (λ (n : ℕ). n / 64) key-is ∙ key-size d small-size small-level (rw e l) in
             let st = strengthOf (d .level) (t .sharpness) in
-            let line = sym (line-on (t .sharpness) (t .depth) key st (omega (arith, level e)) (ap (λ (n : ℕ). strengthOf n (t .sharpness)) (sym (level e)))) in
+            let line = sym (key-line-on (t .sharpness) (t .depth) key st (omega (arith, level e)) (ap (λ (n : ℕ). strengthOf n (t .sharpness)) (sym (level e)))) in
             (λ j. applied (stencil g pass x y (ltb 0 (level e j)) (line j)) samples)
             ∙ ap (λ (n : ℕ). applied (stencil g pass x y (filters d) (sampleFiltering (t .depth) n (st .limit) (st .blimit) (st .thresh))) samples) size
 

@@ -1,25 +1,17 @@
 -- The pass by chunks: along each edge 16 positions at a time, each by the key of its cell.
 -- Assumes nothing.
-use mathlib.Core.Bool.{cond}
 use mathlib.Core.List.{List}
 use Prim.Native.Nat.{ℕ, zero, suc, _+_, _*_, _/_, _%_}
 use lib.Dec.{ltb}
 use Rattle.decided.specs.KeyRuns.{keyFor}
 use Rattle.geometry.specs.declared.Pass.{Pass}
 use Rattle.geometry.specs.declared.Superblock.{Superblock}
-use Rattle.line.specs.SampleFiltering.{sampleFiltering}
+use Rattle.lanes.specs.KeyLine.{keyLine}
 use Rattle.pass_edges.specs.PassEdges.{cellLen, edgeLen}
 use Rattle.positions.specs.Positions.{planeX, planeY}
-use Rattle.strength.specs.Strength.{strengthOf}
 use Rattle.window.specs.Stencil.{Stencil, inTurn}
 use Rattle.window.specs.Window.{stencil, alongX, alongY}
 use Rattle.window.specs.declared.WindowShape.{WindowShape}
-
--- the line filter that a key names: 64 * size + level, and level 0 filters nothing
-unfoldable pub keyLine : (sharpness depth key : ℕ) → List ℕ → List ℕ
-keyLine sharpness depth key =
-    let strength = strengthOf (key % 64) sharpness in
-    cond (ltb 0 (key % 64)) (sampleFiltering depth (key / 64) (strength .limit) (strength .blimit) (strength .thresh)) (λ line. line)
 
 -- the position whose q0 is at (x, y), by a key, and positions from there on along an edge, each by a key of its own
 abbrev pub keyStencil : WindowShape → Pass → (x y sharpness depth key : ℕ) → Stencil
