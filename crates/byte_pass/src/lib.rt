@@ -1,0 +1,2 @@
+// One pass over one superblock of a plane of bytes.
+mod chunk_keys;
