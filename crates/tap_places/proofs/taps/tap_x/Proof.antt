@@ -1,7 +1,7 @@
 use borrow.Author.Needs.{needs}
 use native.Mathlib.Omega.{arith}
-use Rattle.runs.proofs.border.tap_x.Statement.{statement}
-use Rattle.runs.proofs.border.tap_x.Tie as tie
+use Rattle.tap_places.proofs.taps.tap_x.Statement.{statement}
+use Rattle.tap_places.proofs.taps.tap_x.Tie as tie
 
 returns : tie.Need-returns
 returns c = (rw (c .enum-told .given .1), omega arith)

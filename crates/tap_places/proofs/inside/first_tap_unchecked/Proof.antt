@@ -1,7 +1,7 @@
 use borrow.Author.Needs.{needs}
 use native.Mathlib.Omega.{arith}
-use Rattle.runs.proofs.place.first_tap.Statement.{statement}
-use Rattle.runs.proofs.place.first_tap.Tie as tie
+use Rattle.tap_places.proofs.inside.first_tap_unchecked.Statement.{statement}
+use Rattle.tap_places.proofs.inside.first_tap_unchecked.Tie as tie
 
 sub-place-of : tie.Need-sub-place-of
 sub-place-of c = let near = rw (c .enum-told .given .1) at (c .before .before .pre .0) in omega arith
@@ -25,7 +25,7 @@ returns c = rw (c .before .enum-told .given .1) (c .place-of .ensures)
 returns-2 : tie.Need-returns-2
 returns-2 c = rw (c .before .enum-told2 .given .1) (c .place-of2 .ensures)
 
-pub first-tap-spec : {M : Type 1} → statement M
-first-tap-spec =
+pub first-tap-unchecked-spec : {M : Type 1} → statement M
+first-tap-unchecked-spec =
     tie.close
     (tie.spec (search needs) sub-place-of place-of-requires (search needs) sub-place-of-2 place-of-requires-2 returns returns-2)
