@@ -27,7 +27,8 @@ fn store_narrowed(t: &mut [u8], wide: &[u16; 16])
     }
 }
 
-// The first 16 bytes are the line, and those behind it stay as they are. The work without tests, for a caller that has made them.
+// The first 16 bytes are the line, and those behind it stay as they are. The work without tests, for a caller that has
+// made them.
 pub fn sample_filtering_bytes_unchecked(t: &mut [u8], size: u8, limit: u8, blimit: u8, thresh: u8)
     requires { ⌜ 16 ≤ length (now t) ⌝ }
     ensures { λ r. ⌜ now (t .exit) ≡ sampleFiltering 8 size limit blimit thresh (now (t .entry)) ⌝ }

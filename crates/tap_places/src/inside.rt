@@ -1,4 +1,5 @@
-// Runs whose taps are all in the window: the place of the first tap, and the steps from tap to tap and from position to position.
+// Runs whose taps are all in the window: the place of the first tap, and the steps from tap to tap and from position to
+// position.
 ghost use mathlib.Core.Path.{_≡_};
 ghost use Prim.Native.Nat.{_+_, _≤_};
 ghost use Rattle.window.specs.InsideRun.{insideRun, firstTap, tapStep, alongStep};

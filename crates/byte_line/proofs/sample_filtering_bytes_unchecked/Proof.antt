@@ -30,14 +30,15 @@ store-narrowed-requires c κs =
       rw (at-line .sample-filtering-unchecked .ensures, at-wide .widened .ensures) (filters-within 8 _ _ _ _ (take 16 t) depth-8 bytes),
     )
 
+-- what stands behind the 16 bytes is left by the line too
 returns : tie.Need-returns
 returns c =
     let at-store = c .before .before in
     let at-line = at-store .before .before .before in
     let at-wide = at-line .before .before in
     let s = at-wide .before .before .before in
-    let t = s .args .t .now in
     let a = s .args in
+    let t = a .t .now in
     let front = filters-front 8 (a .size) (a .limit) (a .blimit) (a .thresh) (take 16 t) (drop 16 t) (length-take-le 16 t (s .pre)) in
     (rw (at-line .sample-filtering-unchecked .ensures, at-wide .widened .ensures) at (at-store .store-narrowed .ensures))
     ∙ sym (rw take-append-drop at front)
