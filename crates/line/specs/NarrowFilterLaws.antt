@@ -1,7 +1,7 @@
 -- Laws of the narrow filter's numbers.
 -- Assumes nothing.
 use mathlib.Core.Path.{_≡_, _∙_}
-use mathlib.Core.List.{List}
+use mathlib.Core.List.{List, _++_}
 use mathlib.Core.Logic.{_⊎_, ⊎-elim}
 use mathlib.Core.Bool.{Bool, true, false, cond}
 use Prim.Native.Nat.{ℕ, suc, _+_, _-_, _*_, _^_, _≤_, _<_}
@@ -9,7 +9,7 @@ use native.Mathlib.Omega.{arith}
 use lib.Dec.{T}
 use lib.IntN.{ℤ, pos, negsuc, negℤ, natAbs, _+ℤ_, _-ℤ_, +ℤ-idl}
 use lib.ListN.{length, set, length-set}
-use lib.Seq.{getD-set-other}
+use lib.Seq.{getD-set-other, set-append-left}
 use lib.Signed.{mag, nonNeg}
 use borrow.Author.Tests.{le-ltb}
 use Rattle.base.specs.Depth.{supported, depth-scaled}
@@ -17,7 +17,7 @@ use Rattle.base.specs.Filled.{set-below, set-agree}
 use Rattle.base.specs.Notation.{Clip3}
 use Rattle.base.specs.NotationLaws.{mag-clip}
 use Rattle.line.specs.NarrowFilter.{c, offset, sample, narrowFilter}
-use Rattle.wide_filter.specs.Taps.{tap, Within, Agree, agree-p, agree-q}
+use Rattle.wide_filter.specs.Taps.{tap, Within, Agree, agree-p, agree-q, agree-front}
 
 neg-small : (n m : ℕ) → 0 < n → n ≤ m → mag (negℤ (pos n)) < m
 neg-small (suc n) m p q = q
@@ -107,6 +107,21 @@ stored-agree hev t u q0 p0 q1 p1 k e h = cases hev
         set-agree (set (set (set t 8 q0) 7 p0) 9 q1) (set (set (set u 8 q0) 7 p0) 9 q1) 6 p1 k (simp length-set e)
         (set-agree (set (set t 8 q0) 7 p0) (set (set u 8 q0) 7 p0) 9 q1 k (simp length-set e) inner)
 
+stored-front : (hev : Bool) (t r : List ℕ) (q0 p0 q1 p1 : ℕ) → length t ≡ 16 → stored hev (t ++ r) q0 p0 q1 p1 ≡ stored hev t q0 p0 q1 p1 ++ r
+unfolding stored
+stored-front hev t r q0 p0 q1 p1 e = cases hev
+  where
+    put : (l : List ℕ) (i v : ℕ) → length l ≡ 16 → i < 16 → set (l ++ r) i v ≡ set l i v ++ r
+    put l i v f h = set-append-left l r i v (omega arith)
+
+    inner : set (set (t ++ r) 8 q0) 7 p0 ≡ set (set t 8 q0) 7 p0 ++ r
+    inner = rw (put t 8 q0 e (omega arith), put (set t 8 q0) 7 p0 (simp length-set e) (omega arith))
+
+    cases : (hev : Bool) → cond hev (set (set (t ++ r) 8 q0) 7 p0) (set (set (set (set (t ++ r) 8 q0) 7 p0) 9 q1) 6 p1) ≡ cond hev (set (set t 8 q0) 7 p0) (set (set (set (set t 8 q0) 7 p0) 9 q1) 6 p1) ++ r
+    cases true = inner
+    cases false =
+        rw (inner, put (set (set t 8 q0) 7 p0) 9 q1 (simp length-set e) (omega arith), put (set (set (set t 8 q0) 7 p0) 9 q1) 6 p1 (simp length-set e) (omega arith))
+
 pub narrow-length : (B : ℕ) (hev : Bool) (t : List ℕ) → length (narrowFilter B hev t) ≡ length t
 unfolding narrowFilter stored
 narrow-length B hev t = stored-length hev t _ _ _ _
@@ -125,3 +140,11 @@ pub narrow-agree : (B : ℕ) (hev : Bool) (r : ℕ) (t u : List ℕ) → 2 ≤ r
 unfolding narrowFilter stored
 narrow-agree B hev r t u h e a =
     record { same = λ k p q. rw (agree-p r t u 0 a (omega arith) (omega arith), agree-p r t u 1 a (omega arith) (omega arith), agree-q r t u 0 a (omega arith), agree-q r t u 1 a (omega arith)) (stored-agree hev t u _ _ _ _ k e (a .same k p q)) }
+
+-- what stands behind the line is left
+pub narrow-front : (B : ℕ) (hev : Bool) (t r : List ℕ) → length t ≡ 16 → narrowFilter B hev (t ++ r) ≡ narrowFilter B hev t ++ r
+unfolding narrowFilter stored
+narrow-front B hev t r e =
+    let a = agree-front t r e in
+    rw (agree-p 8 (t ++ r) t 0 a (omega arith) (omega arith), agree-p 8 (t ++ r) t 1 a (omega arith) (omega arith), agree-q 8 (t ++ r) t 0 a (omega arith), agree-q 8 (t ++ r) t 1 a (omega arith))
+    (stored-front hev t r _ _ _ _ e)

@@ -2,7 +2,7 @@
 -- Assumes nothing.
 use mathlib.Core.Path.{_≡_, refl, sym, _∙_, subst}
 use mathlib.Core.Bool.{Bool, true, false, cond, not, _||_}
-use mathlib.Core.List.{List}
+use mathlib.Core.List.{List, _++_}
 use mathlib.Core.Logic.{_⊎_, ⊎-elim, inl, inr}
 use Prim.Native.Nat.{ℕ, zero, suc, _+_, _^_, _≤_, _<_}
 use native.Mathlib.Decide.{decLt}
@@ -13,11 +13,11 @@ use Rattle.base.specs.Depth.{supported, scaled}
 use Rattle.line.specs.Masks.{hevMask, filterMask, flatMask, flatMask2}
 use Rattle.line.specs.MasksLaws.{hev-agree, mask-agree, flat-agree, flat2-agree}
 use Rattle.line.specs.NarrowFilter.{narrowFilter}
-use Rattle.line.specs.NarrowFilterLaws.{narrow-length, narrow-below, narrow-kept, narrow-agree}
+use Rattle.line.specs.NarrowFilterLaws.{narrow-length, narrow-below, narrow-kept, narrow-agree, narrow-front}
 use Rattle.line.specs.SampleFiltering.{sampleFiltering}
-use Rattle.wide_filter.specs.Taps.{tap, Within, Agree}
+use Rattle.wide_filter.specs.Taps.{tap, Within, Agree, agree-front}
 use Rattle.wide_filter.specs.WideFilter.{wideFilter}
-use Rattle.wide_filter.specs.WideFilterLaws.{wide-length, wide-below, wide-kept, wide-agree}
+use Rattle.wide_filter.specs.WideFilterLaws.{wide-length, wide-below, wide-kept, wide-agree, wide-front}
 
 -- what a size is not
 from-1 : (size : ℕ) → eqb size 0 ≡ false → 1 ≤ size
@@ -193,3 +193,27 @@ filters-same B size limit blimit thresh t u e a k same = cases (decLt (k + reads
     cases (yes p) q = kept (inl (omega (arith, changes-read size)))
     cases (no p) (no q) = kept (inr (omega (arith, changes-read size)))
     cases (no p) (yes q) = filters-agree B size limit blimit thresh t u e a .same k (omega arith) q
+
+-- ---- a list that goes on behind the line
+
+-- the line filters its first 16 samples, and leaves the others
+pub filters-front : (B size limit blimit thresh : ℕ) (t r : List ℕ) → length t ≡ 16 → sampleFiltering B size limit blimit thresh (t ++ r) ≡ sampleFiltering B size limit blimit thresh t ++ r
+unfolding sampleFiltering
+filters-front B size limit blimit thresh t r e =
+    let a = agree-front t r e in
+    rw (
+      mask-agree 8 (t ++ r) t a (scaled B limit) (scaled B blimit) (omega arith),
+      flat-agree 8 (t ++ r) t a (scaled B 1) (omega arith),
+      flat2-agree 8 (t ++ r) t a (scaled B 1) (omega arith),
+      hev-agree 8 (t ++ r) t a (scaled B thresh) (omega arith),
+    )
+    (cases (filterMask (scaled B limit) (scaled B blimit) t) (eqb size 0 || not (flatMask (scaled B 1) t)) (eqb size 1 || not (flatMask2 (scaled B 1) t)))
+  where
+    hev : Bool
+    hev = hevMask (scaled B thresh) t
+
+    cases : (m f g : Bool) → cond m (cond f (narrowFilter B hev (t ++ r)) (cond g (wideFilter 3 (t ++ r)) (wideFilter 4 (t ++ r)))) (t ++ r) ≡ cond m (cond f (narrowFilter B hev t) (cond g (wideFilter 3 t) (wideFilter 4 t))) t ++ r
+    cases false f g = refl
+    cases true true g = narrow-front B hev t r e
+    cases true false true = wide-front t r e .0
+    cases true false false = wide-front t r e .1

@@ -1,11 +1,11 @@
 -- A line: the 16 samples across an edge, p7 to p0 and then q0 to q7, at places 0 to 15 of a list.
 -- Assumes nothing.
 use mathlib.Core.Path.{_≡_}
-use mathlib.Core.List.{List}
+use mathlib.Core.List.{List, _++_}
 use Prim.Native.Nat.{ℕ, _+_, _-_, _≤_, _<_}
 use native.Mathlib.Omega.{arith}
 use lib.IntN.{ℤ, pos, negsuc}
-use lib.ListN.{getD}
+use lib.ListN.{length, getD, List·getD-append}
 
 abbrev pub tap : (t : List ℕ) (k : ℕ) → ℕ
 tap t k = getD t k 0
@@ -38,3 +38,7 @@ agree-p r t u k a h g = a .same (7 - k) (omega arith) (omega arith)
 
 pub agree-q : (r : ℕ) (t u : List ℕ) (k : ℕ) → Agree r t u → k < r → q t k ≡ q u k
 agree-q r t u k a h = a .same (8 + k) (omega arith) (omega arith)
+
+-- a list that goes on behind a line has the line's samples
+pub agree-front : (t r : List ℕ) → length t ≡ 16 → Agree 8 (t ++ r) t
+agree-front t r e = record { same = λ k p q. List·getD-append t r 0 k (omega arith) }

@@ -1,8 +1,9 @@
--- Laws of the wide filter: how many samples it leaves, in which range, which it keeps, and which it reads.
+-- Laws of the wide filter: how many samples it leaves, in which range, which it keeps, and which it reads; and that it leaves what
+-- stands behind the line.
 -- Assumes nothing.
-use mathlib.Core.Path.{_≡_, refl}
+use mathlib.Core.Path.{_≡_, refl, _∙_}
 use mathlib.Core.Bool.{Bool, true, false, cond}
-use mathlib.Core.List.{List}
+use mathlib.Core.List.{List, _++_}
 use mathlib.Core.Logic.{_⊎_, inl, inr, ⊎-elim}
 use Prim.Native.Nat.{ℕ, zero, suc, _+_, _-_, _*_, _≤_, _<_}
 use native.Mathlib.Nat.{mul-suc}
@@ -10,12 +11,13 @@ use native.Mathlib.Omega.{arith}
 use lib.Dec.{eqb}
 use lib.IntN.{ℤ, pos, negsuc, _+ℤ_, _-ℤ_}
 use lib.ListN.{length}
+use lib.Seq.{set-append-left}
 use lib.Signed.{mag}
 use borrow.Author.Tests.{eq-eqb, ne-eqb}
-use Rattle.base.specs.Filled.{length-filled, filled-other, filled-below, filled-agree}
+use Rattle.base.specs.Filled.{filled, length-filled, filled-same, filled-other, filled-below, filled-agree}
 use Rattle.base.specs.Notation.{Clip3}
 use Rattle.base.specs.NotationLaws.{split, mag-clip}
-use Rattle.wide_filter.specs.Taps.{tap, F, Within, Agree, agree-less}
+use Rattle.wide_filter.specs.Taps.{tap, F, Within, Agree, agree-less, agree-front}
 use Rattle.wide_filter.specs.WideFilter.{reach, sumTo, smoothed, wideFilter}
 
 -- ---- the samples that a sum reads
@@ -110,3 +112,20 @@ wide-agree r t u e a = (
   (λ h. record { same = λ k p q. filled-agree _ _ 5 6 t u k (λ j. smoothed-agree t u (pos j -ℤ pos 8) .0 (agree-less r 4 t u h a)) e (a .same k p q) }),
   (λ h. record { same = λ k p q. filled-agree _ _ 1 14 t u k (λ j. smoothed-agree t u (pos j -ℤ pos 8) .1 (agree-less r 8 t u h a)) e (a .same k p q) }),
 )
+
+-- ---- a list that goes on behind the line
+
+filled-front : (f : ℕ → ℕ) (s n : ℕ) (t r : List ℕ) → s + n ≤ length t → filled f s n (t ++ r) ≡ filled f s n t ++ r
+unfolding filled
+filled-front f s zero t r h = refl
+filled-front f s (suc n) t r h =
+    rw (filled-front f s n t r (omega arith)) (set-append-left (filled f s n t) r (s + n) (f (s + n)) (omega (arith, length-filled f s n t)))
+
+pub wide-front : (t r : List ℕ) → length t ≡ 16 → (wideFilter 3 (t ++ r) ≡ wideFilter 3 t ++ r) × (wideFilter 4 (t ++ r) ≡ wideFilter 4 t ++ r)
+unfolding wideFilter
+wide-front t r e =
+    let a = agree-front t r e in (
+      filled-same _ _ 5 6 (t ++ r) (λ k h. smoothed-agree (t ++ r) t (pos (5 + k) -ℤ pos 8) .0 (agree-less 8 4 (t ++ r) t (omega arith) a))
+          ∙ filled-front _ 5 6 t r (omega arith),
+      filled-same _ _ 1 14 (t ++ r) (λ k h. smoothed-agree (t ++ r) t (pos (1 + k) -ℤ pos 8) .1 a) ∙ filled-front _ 1 14 t r (omega arith),
+    )

@@ -7,7 +7,7 @@ use Rattle.line.specs.SampleFiltering.{sampleFiltering}
 use Rattle.window.specs.Stencil.{inTurn}
 use Rattle.window.specs.StencilLaws.{in-turn-none}
 use Rattle.window.specs.Window.{runOf}
-use Rattle.runs.specs.RunsLaws.{in-turn-next}
+use Rattle.tap_places.specs.TurnLaws.{in-turn-next}
 use Rattle.runs.proofs.border.filter_border.Statement.{statement}
 use Rattle.runs.proofs.border.filter_border.Tie as tie
 
@@ -26,7 +26,7 @@ filter-position-requires : tie.Need-filter-position-requires Inv-loop μ-loop
 filter-position-requires c κs =
     let at-loop = c .before .before .before .before in
     let s = at-loop .before .before in
-    (rw (at-loop .loop .inv .1) (s .pre .0), c .before .along-x .ensures .1, c .along-y .ensures .1, s .pre .4)
+    (rw (at-loop .loop .inv .1) (s .pre .0), c .before .along-x-unchecked .ensures .1, c .along-y-unchecked .ensures .1, s .pre .4)
 
 loop-again : tie.Need-loop-again Inv-loop μ-loop
 loop-again c =
@@ -38,7 +38,7 @@ loop-again c =
       omega arith,
       call .kept .0 ∙ l .inv .1,
       in-turn-next (runOf (a .g) (a .pass) (a .x) (a .y) (sampleFiltering (a .depth) (a .size) (a .strength .limit) (a .strength .blimit) (a .strength .thresh))) (l .k) (a .samples .now) _ _
-          (rw (at-y .along-y .ensures .0, at-y .before .along-x .ensures .0) at (call .ensures)) (l .inv .2),
+          (rw (at-y .along-y-unchecked .ensures .0, at-y .before .along-x-unchecked .ensures .0) at (call .ensures)) (l .inv .2),
     )
 
 returns : tie.Need-returns Inv-loop μ-loop

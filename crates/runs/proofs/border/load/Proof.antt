@@ -5,7 +5,7 @@ use native.Mathlib.Omega.{arith}
 use lib.ListN.{length, getD, length-set}
 use Rattle.base.specs.Filled.{filled, filled-none}
 use Rattle.window.specs.Window.{tapRead}
-use Rattle.runs.specs.RunsLaws.{filled-next, filled-gather}
+use Rattle.tap_places.specs.TurnLaws.{filled-next, filled-gather}
 use Rattle.runs.proofs.border.load.Statement.{statement}
 use Rattle.runs.proofs.border.load.Tie as tie
 

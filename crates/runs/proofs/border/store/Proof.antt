@@ -6,7 +6,7 @@ use lib.ListN.{length, getD}
 use Rattle.window.specs.Stencil.{scatter}
 use Rattle.window.specs.StencilLaws.{scatter-none}
 use Rattle.window.specs.Window.{tapStored, tapWritten}
-use Rattle.runs.specs.RunsLaws.{scatter-next}
+use Rattle.tap_places.specs.TurnLaws.{scatter-next}
 use Rattle.runs.proofs.border.store.Statement.{statement}
 use Rattle.runs.proofs.border.store.Tie as tie
 

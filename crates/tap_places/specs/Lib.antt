@@ -1,0 +1,3 @@
+pub mod Lendable
+pub mod Near
+pub mod TurnLaws
