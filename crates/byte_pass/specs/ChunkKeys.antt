@@ -13,7 +13,11 @@ use Rattle.pass.specs.Chunks.{keyAlong}
 unfoldable pub spread : (at len : ℕ) (keys : List ℕ) → List ℕ
 spread at len keys = filled (λ k. getD keys (at + k / len) 0) 0 16 (replicate 16 0)
 
+-- keys of at most three sizes
+pub record Keys (keys : List ℕ) : Type 0 where
+  pub small : (k : ℕ) → k < 16 → getD keys k 0 < 192
+
 -- the keys of the positions of chunk m of an edge
 pub record ChunkKeys (s : Superblock) (pass : Pass) (outer inner : List ℕ) (edge m : ℕ) (keys : List ℕ) : Type 0 where
   pub are : (k : ℕ) → k < 16 → getD keys k 0 ≡ keyAlong s pass outer inner edge (16 * m + k)
-  pub small : (k : ℕ) → k < 16 → getD keys k 0 < 192
+  pub small : Keys keys

@@ -1,1 +1,2 @@
 pub mod ChunkKeys
+pub mod ChunkKeysLaws

@@ -16,7 +16,7 @@ use pass_edges::along;
 
 // The keys of cells from the place at on, each for len positions.
 fn spread(keys: &[u8; 64], at: usize, len: usize) -> [u8; 16]
-    requires { ⌜ (0 < len) × (at + 15 / len < 64) ⌝ }
+    requires { ⌜ ((len ≡ 8) × (at + 2 ≤ 64)) ⊎ ((len ≡ 4) × (at + 4 ≤ 64)) ⌝ }
     ensures { λ r. ⌜ r ≡ spread at len (now (keys .entry)) ⌝ }
 {
     let mut r = [0u8; 16];

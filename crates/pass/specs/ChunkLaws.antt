@@ -30,7 +30,7 @@ use Rattle.order.specs.Order.{run}
 use Rattle.order.specs.Walk.{run-append, run-strip-next, run-beside}
 use Rattle.pass_edges.specs.PassEdges.{alongSub, cellLen, edgeCount, edgeLen}
 use Rattle.positions.specs.Positions.{planeX, planeY}
-use Rattle.runs.specs.RunsLaws.{in-turn-next}
+use Rattle.tap_places.specs.TurnLaws.{in-turn-next}
 use Rattle.strength.specs.Strength.{strengthOf}
 use Rattle.strength.specs.declared.FilterStrength.{FilterStrength}
 use Rattle.window.specs.InsideRun.{insideRun, firstTap, tapStep, alongStep, plainLines, lines-plain}

@@ -1,7 +1,8 @@
 // Runs whose taps are all in the window: the place of the first tap, and the steps from tap to tap and from position to
 // position.
+ghost use mathlib.Core.Bool.{true};
 ghost use mathlib.Core.Path.{_≡_};
-ghost use Prim.Native.Nat.{_+_, _≤_};
+ghost use Prim.Native.Nat.{_+_, _≤_, _<_};
 ghost use Rattle.window.specs.InsideRun.{insideRun, firstTap, tapStep, alongStep};
 ghost use Rattle.tap_places.specs.Near.{Near};
 use crate::place::place_of;
@@ -19,6 +20,37 @@ pub fn is_inside_unchecked(g: WindowShape, pass: Pass, x: usize, y: usize, n: us
             & (g.top <= y)
             & (y + n <= g.top + g.height),
         Pass::Horizontal => (x + n <= g.width) & (g.top + 8 <= y) & (y + 8 <= g.top + g.height),
+    }
+}
+
+// How many numbers from a first one on are below an end, up to 16.
+fn count_to(first: usize, end: usize) -> usize
+    ensures { λ r. ⌜ (r ≤ 16) × (0 < r → first + r ≤ end) ⌝ }
+{
+    if end <= first {
+        return 0;
+    }
+    if 16 < end - first { 16 } else { end - first }
+}
+
+// How many positions from (x, y) on have all their taps in the window, up to 16.
+pub fn inside_count_unchecked(g: WindowShape, pass: Pass, x: usize, y: usize) -> usize
+    requires { ⌜ (x ≤ 131072) × (y ≤ 131072) × (g .top + g .height ≤ 65536) ⌝ }
+    ensures { λ r. ⌜ (r ≤ 16) × (0 < r → insideRun g pass x y r ≡ true) ⌝ }
+{
+    match pass {
+        Pass::Vertical => {
+            if (8 <= x) & (x + 8 <= g.width) & (g.top <= y) {
+                return count_to(y, g.top + g.height);
+            }
+            0
+        }
+        Pass::Horizontal => {
+            if (g.top + 8 <= y) & (y + 8 <= g.top + g.height) {
+                return count_to(x, g.width);
+            }
+            0
+        }
     }
 }
 

@@ -1,0 +1,65 @@
+-- Laws of the keys of a chunk, for the code that spreads them.
+-- Assumes nothing.
+use mathlib.Core.Path.{_≡_, sym, ap, _∙_}
+use mathlib.Core.Logic.{_⊎_, inl, inr}
+use mathlib.Core.Bool.{Bool, true, false, cond}
+use mathlib.Core.List.{List}
+use Prim.Native.Nat.{ℕ, _+_, _*_, _/_, _%_, _≤_, _<_}
+use native.Mathlib.Nat.{zero-add}
+use native.Mathlib.Omega.{arith}
+use lib.Dec.{eqb}
+use lib.ListN.{getD, replicate}
+use Rattle.base.specs.Filled.{filled, filled-at}
+use Rattle.decided.specs.KeyRuns.{keyFor, Keyed}
+use Rattle.geometry.specs.Coordinates.{shr}
+use Rattle.geometry.specs.declared.Pass.{Pass}
+use Rattle.geometry.specs.declared.Superblock.{Superblock}
+use Rattle.pass.specs.Chunks.{keyAlong}
+use Rattle.pass_edges.specs.PassEdges.{alongSub, cellLen, edgeLen}
+use Rattle.byte_pass.specs.ChunkKeys.{spread, ChunkKeys}
+
+spread-at : (at len : ℕ) (keys : List ℕ) (k : ℕ) → k < 16 → getD (spread at len keys) k 0 ≡ getD keys (at + k / len) 0
+unfolding spread
+spread-at at len keys k h = rw (zero-add k) at (filled-at (λ j. getD keys (at + j / len) 0) 0 16 (replicate 16 0) k h (omega arith))
+
+-- a cell has 8 positions, or 4, and a chunk is among the edge's
+pub record Cells (len m : ℕ) : Type 0 where
+  pub lengths : (len ≡ 8) ⊎ (len ≡ 4)
+  pub inside : 16 * m < 8 * len
+  pub place : (k : ℕ) → k < 16 → 16 * m / len + k / len ≡ (16 * m + k) / len
+  pub among : (k : ℕ) → k < 16 → (16 * m + k) / len < 8
+
+pub cells : (s : Superblock) (pass : Pass) (m : ℕ) → m < edgeLen s pass / 16 → Cells (cellLen s pass) m
+unfolding edgeLen
+cells s pass m h = by (alongSub s pass) h
+  where
+    by : (b : Bool) → m < shr 64 b / 16 → Cells (shr 8 b) m
+    by true h = record { lengths = inr (omega arith); inside = omega arith; place = λ k l. omega arith; among = λ k l. omega arith }
+    by false h = record { lengths = inl (omega arith); inside = omega arith; place = λ k l. omega arith; among = λ k l. omega arith }
+
+module _ (s : Superblock) (pass : Pass) (outer inner : List ℕ) (edge m : ℕ) (keyed : Keyed outer inner) (few : edge < 16) (h : m < edgeLen s pass / 16) where
+  -- from the keys of the edge's parity
+  from : (keys r : List ℕ) → ((c : ℕ) → getD keys (8 * (edge / 2) + c) 0 ≡ keyFor outer inner edge c) → ((k : ℕ) → k < 64 → getD keys k 0 < 192)
+      → r ≡ spread (8 * (edge / 2) + 16 * m / cellLen s pass) (cellLen s pass) keys → ChunkKeys s pass outer inner edge m r
+  unfolding keyAlong
+  from keys r is small e = record { are = are; small = record { small = λ k l. rw (at k l) (small _ (omega (arith, c .among k l))) } }
+    where
+      c : Cells (cellLen s pass) m
+      c = cells s pass m h
+
+      at : (k : ℕ) → k < 16 → getD r k 0 ≡ getD keys (8 * (edge / 2) + (16 * m + k) / cellLen s pass) 0
+      at k l =
+          ap (λ (x : List ℕ). getD x k 0) e
+          ∙ spread-at _ _ keys k l
+          ∙ ap (λ (x : ℕ). getD keys x 0) (omega (arith, c .place k l))
+
+      are : (k : ℕ) → k < 16 → getD r k 0 ≡ keyAlong s pass outer inner edge (16 * m + k)
+      are k l = at k l ∙ is _
+
+  pub outer-keys : (r : List ℕ) → edge % 2 ≡ 0 → r ≡ spread (8 * (edge / 2) + 16 * m / cellLen s pass) (cellLen s pass) outer → ChunkKeys s pass outer inner edge m r
+  unfolding keyFor
+  outer-keys r e = from outer r (λ c. rw e) (keyed .even)
+
+  pub inner-keys : (r : List ℕ) → edge % 2 ≡ 1 → r ≡ spread (8 * (edge / 2) + 16 * m / cellLen s pass) (cellLen s pass) inner → ChunkKeys s pass outer inner edge m r
+  unfolding keyFor
+  inner-keys r e = from inner r (λ c. rw e) (keyed .odd)
