@@ -6,8 +6,8 @@ use native.Mathlib.Omega.{arith}
 use Rattle.base.specs.First.{firstFrom, first, first-here, first-next, first-end}
 use Rattle.word_bytes.specs.WordBytes.{wordsOf}
 use Rattle.bad_words.specs.BadWord.{badCell}
-use Rattle.bad_words.proofs.first_bad_word_bytes_unchecked.Statement.{statement}
-use Rattle.bad_words.proofs.first_bad_word_bytes_unchecked.Tie as tie
+use Rattle.bad_words.proofs.bytes.first_bad_word_bytes_unchecked.Statement.{statement}
+use Rattle.bad_words.proofs.bytes.first_bad_word_bytes_unchecked.Tie as tie
 
 abbrev Inv-loop : tie.InvT-loop
 Inv-loop bytes count k₀ k = (k ≤ count) × (firstFrom (badCell (wordsOf bytes)) k (count - k) ≡ first (badCell (wordsOf bytes)) count)

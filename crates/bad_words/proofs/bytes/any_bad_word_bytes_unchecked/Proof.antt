@@ -5,8 +5,8 @@ use native.Mathlib.Omega.{arith}
 use Rattle.base.specs.First.{found, found-start, found-more}
 use Rattle.word_bytes.specs.WordBytes.{wordsOf}
 use Rattle.bad_words.specs.BadWord.{badCell}
-use Rattle.bad_words.proofs.any_bad_word_bytes_unchecked.Statement.{statement}
-use Rattle.bad_words.proofs.any_bad_word_bytes_unchecked.Tie as tie
+use Rattle.bad_words.proofs.bytes.any_bad_word_bytes_unchecked.Statement.{statement}
+use Rattle.bad_words.proofs.bytes.any_bad_word_bytes_unchecked.Tie as tie
 
 abbrev Inv-loop : tie.InvT-loop
 Inv-loop bytes count any₀ k₀ any k = (k ≤ count) × (any ≡ found (badCell (wordsOf bytes)) k)

@@ -1,8 +1,8 @@
 use borrow.Author.Needs.{needs}
 use mathlib.Core.Path.{_≡_}
 use Rattle.word_bytes.specs.WordBytesLaws.{words-of-each}
-use Rattle.bad_words.proofs.bad_word_at.Statement.{statement}
-use Rattle.bad_words.proofs.bad_word_at.Tie as tie
+use Rattle.bad_words.proofs.bytes.bad_word_at.Statement.{statement}
+use Rattle.bad_words.proofs.bytes.bad_word_at.Tie as tie
 
 returns : tie.Need-returns
 returns c =
