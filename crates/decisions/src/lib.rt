@@ -1,4 +1,5 @@
-// What is decided of a position by the cells of the superblock row. The definitions are in specs/; the crate `keys` decides by them.
+// What is decided of a position by the cells of the superblock row: the definitions are in specs/, and the crate `keys`
+// decides by them.
 
 // Whether a position is filtered, with which size and level, and whether its cell has a level at all.
 pub struct Decision {

@@ -7,9 +7,9 @@ use Prim.Native.Nat.{ℕ, _+_, _-_, _*_, _/_, _%_, _^_, _≤_, _<_}
 use lib.Dec.{eqb, ltb}
 use lib.ListN.{length, getD, replicate}
 use Rattle.base.specs.Filled.{filled}
-use Rattle.base.specs.First.{found}
+use Rattle.base.specs.First.{first, found}
 use Rattle.cells.specs.Cell.{bit}
-use Rattle.decisions.specs.Decision.{withoutLevel}
+use Rattle.decisions.specs.Decision.{withoutLevel, cellPlace}
 use Rattle.decisions.specs.declared.Decision.{Decision}
 use Rattle.geometry.specs.declared.Pass.{Pass}
 use Rattle.geometry.specs.declared.Pass.the-variants.{Vertical, Horizontal}
@@ -131,6 +131,10 @@ PlainTold t words r = (r .outer ≡ plainKeys t words 0) × (r .inner ≡ plainK
 unfoldable pub lackAt : Turned → (words : List ℕ) (k : ℕ) → Bool
 lackAt t words k = withoutLevel (plainIn (limitsOf t (k / 8)) (t .log) (t .tx) words (8 * (k / 16) + k % 8))
 
+-- and the place of the first position of the first such cell
+abbrev pub placeBy : Turned → (words : List ℕ) → ℕ
+placeBy t words = cellPlace (t .paired) (first (lackAt t words) (16 * pairs (t .sub)))
+
 -- the place of the first cell that edge pair e reads, and that of the cell at c from there
 abbrev pub baseOf : Turned → (e : ℕ) → ℕ
 baseOf t e = t .from + offset (t .sub) e * t .across
@@ -147,6 +151,10 @@ wordFrom base paired along cells k = getD cells (clamped (placeFrom base paired 
 
 unfoldable pub wordIn : Turned → (cells : List ℕ) (k : ℕ) → ℕ
 wordIn t cells k = wordFrom (baseOf t (k / 8)) (t .paired) (t .along) cells k
+
+-- a list with the words of a pass at its front
+abbrev pub fetched : Turned → (cells words : List ℕ) → List ℕ
+fetched t cells words = filled (wordIn t cells) 0 (8 * pairs (t .sub)) words
 
 -- how large the numbers of a pass are
 pub record Small (t : Turned) : Type 0 where

@@ -17,7 +17,8 @@ pub(crate) struct EdgeLimits {
     // Blocks and transforms of a logarithm below have an edge here.
     pub block: u32,
     pub transform: u32,
-    // Whether the edge is at 32 samples, where size 0 becomes 1, and in the last cell of a subsampled plane, where size 2 does.
+    // Whether the edge is at 32 samples, where size 0 becomes 1, and in the last cell of a subsampled plane, where size
+    // 2 does.
     pub wide: bool,
     pub narrow: bool,
 }

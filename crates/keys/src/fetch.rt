@@ -3,10 +3,15 @@ ghost use mathlib.Core.Path.{_≡_};
 ghost use Prim.Native.Nat.{_+_, _*_, _/_, _≤_, _<_};
 ghost use lib.ListN.{length};
 ghost use Rattle.base.specs.Filled.{filled};
+ghost use Rattle.geometry.specs.Frame.{cellsFrom};
+ghost use Rattle.positions.specs.Positions.{Placed};
 ghost use Rattle.word_bytes.specs.WordBytes.{wordsOf};
-ghost use Rattle.keys.specs.PlainKeys.{pairs, offset, rounded, clamped, baseOf, placeFrom, wordFrom, wordIn, Small};
+ghost use Rattle.keys.specs.PlainKeys.{turnedOf, pairs, offset, rounded, clamped, baseOf, placeFrom, wordFrom, fetched, Small};
 use crate::turned::Turned;
 use crate::turned::pair_count;
+use crate::turned::turned_of;
+use geometry::Pass;
+use geometry::Superblock;
 use word_bytes::word_at_unchecked;
 
 // The place that is so many steps behind another.
@@ -76,10 +81,11 @@ fn fetch_pair(
     }
 }
 
-pub(crate) fn fetch(words: &mut [u32; 64], cells: &[u32], t: Turned)
-    requires { ⌜ Small t × (0 < length (now cells)) ⌝ }
-    ensures { λ _. ⌜ now (words .exit) ≡ filled (wordIn t (now (cells .entry))) 0 (8 * pairs (t .sub)) (now (words .entry)) ⌝ }
+pub(crate) fn fetch(words: &mut [u32; 64], cells: &[u32], s: Superblock, pass: Pass, chroma: bool)
+    requires { ⌜ Placed s × (cellsFrom (s .row) (s .cols) (s .rows) ≤ length (now cells)) ⌝ }
+    ensures { λ _. ⌜ now (words .exit) ≡ fetched (turnedOf s pass chroma) (now (cells .entry)) (now (words .entry)) ⌝ }
 {
+    let t = turned_of(s, pass, chroma);
     let count = pair_count(t.sub);
     let mut e: usize = 0;
     while e < count {
@@ -109,10 +115,17 @@ fn fetch_pair_bytes(
     }
 }
 
-pub(crate) fn fetch_bytes(words: &mut [u32; 64], cells: &[u8], t: Turned)
-    requires { ⌜ Small t × (0 < length (now cells) / 4) ⌝ }
-    ensures { λ _. ⌜ now (words .exit) ≡ filled (wordIn t (wordsOf (now (cells .entry)))) 0 (8 * pairs (t .sub)) (now (words .entry)) ⌝ }
+pub(crate) fn fetch_bytes(
+    words: &mut [u32; 64],
+    cells: &[u8],
+    s: Superblock,
+    pass: Pass,
+    chroma: bool,
+)
+    requires { ⌜ Placed s × (cellsFrom (s .row) (s .cols) (s .rows) ≤ length (now cells) / 4) ⌝ }
+    ensures { λ _. ⌜ now (words .exit) ≡ fetched (turnedOf s pass chroma) (wordsOf (now (cells .entry))) (now (words .entry)) ⌝ }
 {
+    let t = turned_of(s, pass, chroma);
     let count = pair_count(t.sub);
     let mut e: usize = 0;
     while e < count {

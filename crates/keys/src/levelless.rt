@@ -3,11 +3,15 @@ ghost use mathlib.Core.Path.{_≡_};
 ghost use Prim.Native.Nat.{_*_, _≤_, _<_};
 ghost use Rattle.base.specs.First.{first};
 ghost use Rattle.decisions.specs.Decision.{cellPlace};
-ghost use Rattle.keys.specs.PlainKeys.{pairs, lackAt, Small};
+ghost use Rattle.positions.specs.Positions.{Placed};
+ghost use Rattle.keys.specs.PlainKeys.{turnedOf, pairs, lackAt, placeBy, Small};
 use crate::edge_limits::entry_of;
 use crate::edge_limits::limits_of;
 use crate::turned::Turned;
 use crate::turned::pair_count;
+use crate::turned::turned_of;
+use geometry::Pass;
+use geometry::Superblock;
 
 // Whether cell k decides without level, 8 cells to an edge. The two edges of a pair read the same words.
 fn lacks(words: &[u32; 64], t: Turned, k: usize) -> bool
@@ -49,9 +53,10 @@ fn cell_place(paired: bool, k: usize) -> usize
 }
 
 // The positions of a cell have one decision, so the first of the first such cell is the place.
-pub(crate) fn first_place(words: &[u32; 64], t: Turned) -> usize
-    requires { ⌜ Small t ⌝ }
-    ensures { λ r. ⌜ r ≡ cellPlace (t .paired) (first (lackAt t (now (words .entry))) (16 * pairs (t .sub))) ⌝ }
+pub(crate) fn first_place(words: &[u32; 64], s: Superblock, pass: Pass, chroma: bool) -> usize
+    requires { ⌜ Placed s ⌝ }
+    ensures { λ r. ⌜ r ≡ placeBy (turnedOf s pass chroma) (now (words .entry)) ⌝ }
 {
+    let t = turned_of(s, pass, chroma);
     cell_place(t.paired, first_lack(words, t))
 }

@@ -1,4 +1,4 @@
-// The keys of a pass over a superblock of a plane, and the place of a level that lacks. The row's cells are words, or bytes.
+// The keys of a pass over a superblock of a plane, and the place of a level that lacks, by cells as words or as bytes.
 ghost use mathlib.Core.Path.{_≡_};
 ghost use Prim.Native.Nat.{_+_, _*_, _/_, _≤_, _<_};
 ghost use lib.ListN.{length};
@@ -10,7 +10,7 @@ ghost use Rattle.pass_edges.specs.PassEdges.{edgeCount};
 ghost use Rattle.positions.specs.Positions.{Placed};
 ghost use Rattle.word_bytes.specs.WordBytes.{wordsOf};
 ghost use Rattle.keys.specs.Keys.{Told};
-ghost use Rattle.keys.specs.PlainKeys.{pairs, keyBy, lackBy, plainKey, plainLack, PlainTold, Small};
+ghost use Rattle.keys.specs.PlainKeys.{turnedOf, pairs, keyBy, lackBy, plainKey, plainLack, PlainTold, Small};
 
 mod edge_limits;
 mod fetch;
@@ -86,11 +86,12 @@ fn put_keys(outer: &mut [u8; 64], inner: &mut [u8; 64], words: &[u32; 64], t: Tu
     lacking
 }
 
-// The keys by the words that were fetched.
-fn keys_by(words: &[u32; 64], t: Turned) -> Keys
-    requires { ⌜ Small t ⌝ }
-    ensures { λ r. ⌜ PlainTold t (now (words .entry)) r ⌝ }
+// The keys by the words that were fetched. The arrays are local here, which the loop needs to become vectors.
+fn keys_by(words: &[u32; 64], s: Superblock, pass: Pass, chroma: bool) -> Keys
+    requires { ⌜ Placed s ⌝ }
+    ensures { λ r. ⌜ PlainTold (turnedOf s pass chroma) (now (words .entry)) r ⌝ }
 {
+    let t = turned_of(s, pass, chroma);
     let mut outer = [0u8; 64];
     let mut inner = [0u8; 64];
     let lacking = put_keys(&mut outer, &mut inner, words, t);
@@ -106,20 +107,18 @@ pub fn keys_unchecked(cells: &[u32], s: Superblock, pass: Pass, chroma: bool) ->
     requires { ⌜ Placed s × (cellsFrom (s .row) (s .cols) (s .rows) ≤ length (now cells)) ⌝ }
     ensures { λ r. ⌜ Told s pass chroma (now (cells .entry)) r ⌝ }
 {
-    let t = turned_of(s, pass, chroma);
     let mut words = [0u32; 64];
-    fetch(&mut words, cells, t);
-    keys_by(&words, t)
+    fetch(&mut words, cells, s, pass, chroma);
+    keys_by(&words, s, pass, chroma)
 }
 
 pub fn keys_bytes_unchecked(cells: &[u8], s: Superblock, pass: Pass, chroma: bool) -> Keys
     requires { ⌜ Placed s × (cellsFrom (s .row) (s .cols) (s .rows) ≤ length (now cells) / 4) ⌝ }
     ensures { λ r. ⌜ Told s pass chroma (wordsOf (now (cells .entry))) r ⌝ }
 {
-    let t = turned_of(s, pass, chroma);
     let mut words = [0u32; 64];
-    fetch_bytes(&mut words, cells, t);
-    keys_by(&words, t)
+    fetch_bytes(&mut words, cells, s, pass, chroma);
+    keys_by(&words, s, pass, chroma)
 }
 
 // The place of the first decided position whose cell has no level, or 64 times the number of edges.
@@ -127,10 +126,9 @@ pub fn first_levelless_unchecked(cells: &[u32], s: Superblock, pass: Pass, chrom
     requires { ⌜ Placed s × (cellsFrom (s .row) (s .cols) (s .rows) ≤ length (now cells)) ⌝ }
     ensures { λ r. ⌜ r ≡ first (levelless s pass chroma (now (cells .entry))) (64 * edgeCount s pass) ⌝ }
 {
-    let t = turned_of(s, pass, chroma);
     let mut words = [0u32; 64];
-    fetch(&mut words, cells, t);
-    first_place(&words, t)
+    fetch(&mut words, cells, s, pass, chroma);
+    first_place(&words, s, pass, chroma)
 }
 
 pub fn first_levelless_bytes_unchecked(
@@ -142,8 +140,7 @@ pub fn first_levelless_bytes_unchecked(
     requires { ⌜ Placed s × (cellsFrom (s .row) (s .cols) (s .rows) ≤ length (now cells) / 4) ⌝ }
     ensures { λ r. ⌜ r ≡ first (levelless s pass chroma (wordsOf (now (cells .entry)))) (64 * edgeCount s pass) ⌝ }
 {
-    let t = turned_of(s, pass, chroma);
     let mut words = [0u32; 64];
-    fetch_bytes(&mut words, cells, t);
-    first_place(&words, t)
+    fetch_bytes(&mut words, cells, s, pass, chroma);
+    first_place(&words, s, pass, chroma)
 }

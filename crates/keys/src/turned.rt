@@ -14,12 +14,12 @@ pub(crate) struct Turned {
     pub sub: bool,
     pub start: usize,
     pub count: usize,
-    // Along: the subsampling, the number of the frame's cells from the superblock's first on, and how many of them may have
-    // transform edges at inner edges.
+    // Along: the subsampling, the number of the frame's cells from the superblock's first on, and how many of them may
+    // have transform edges at inner edges.
     pub paired: bool,
     pub shown: u32,
     pub coded: u32,
-    // Among the cells of the row: the place of the superblock's first cell, and the steps to the next one across and along.
+    // Among the cells of the row: the place of the superblock's first cell, and the steps to the next across and along.
     pub from: usize,
     pub across: usize,
     pub along: usize,

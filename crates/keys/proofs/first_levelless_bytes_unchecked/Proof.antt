@@ -1,26 +1,18 @@
 use borrow.Author.Needs.{needs}
 use mathlib.Core.Path.{_∙_}
-use native.Mathlib.Omega.{arith}
 use denote.Ref.{now}
 use Rattle.word_bytes.specs.WordBytes.{wordsOf}
 use Rattle.word_bytes.specs.WordBytesLaws.{words-of-length}
 use Rattle.keys.specs.FetchedLaws.{first-told}
-use Rattle.keys.specs.PlainKeysLaws.{some-cells}
 use Rattle.keys.proofs.first_levelless_bytes_unchecked.Statement.{statement}
 use Rattle.keys.proofs.first_levelless_bytes_unchecked.Tie as tie
 
-fetch-bytes-requires : tie.Need-fetch-bytes-requires
-fetch-bytes-requires c κs =
-    let start = c .before .before .before in
-    (c .before .turned-of .ensures .1, omega (arith, start .pre .1, some-cells (start .args .s) (start .pre .0)))
-
 returns : tie.Need-returns
 returns c =
-    let turned = c .before .before .before .before in
-    let start = turned .before .before in
+    let words = c .before .before in
+    let start = words .before .before .before in
     let a = start .args in
-    c .first-place .ensures
-    ∙ first-told (a .s) (a .pass) (a .chroma) (wordsOf (now (a .cells))) (start .pre .0) (rw (words-of-length (now (a .cells))) (start .pre .1)) _ (turned .turned-of .ensures .0) _ (c .before .before .fetch-bytes .ensures)
+    c .first-place .ensures ∙ first-told (a .s) (a .pass) (a .chroma) (wordsOf (now (a .cells))) (start .pre .0) (rw (words-of-length (now (a .cells))) (start .pre .1)) _ (words .fetch-bytes .ensures)
 
 pub first-levelless-bytes-unchecked-spec : {M : Type 1} → statement M
-first-levelless-bytes-unchecked-spec = tie.close (tie.spec (search needs) fetch-bytes-requires (search needs) returns)
+first-levelless-bytes-unchecked-spec = tie.close (tie.spec (search needs) (search needs) returns)
