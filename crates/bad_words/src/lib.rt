@@ -5,6 +5,8 @@ ghost use lib.ListN.{length};
 ghost use Rattle.base.specs.First.{first, found};
 ghost use Rattle.bad_words.specs.BadWord.{badWord, badCell};
 
+pub mod bytes;
+
 // Document 01's test 11 of a word: a zero bit is set, or a level is not 0 while absent.
 pub fn bad_word(word: u32) -> bool
     ensures { λ r. ⌜ r ≡ badWord word ⌝ }

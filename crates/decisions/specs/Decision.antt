@@ -7,6 +7,7 @@ use lib.Dec.{ltb}
 use lib.ListN.{getD}
 use Rattle.cells.specs.Cell.{cellOf, widthLog2, heightLog2, txOf}
 use Rattle.cells.specs.declared.LfCell.{LfCell}
+use Rattle.geometry.specs.Coordinates.{shr}
 use Rattle.geometry.specs.declared.Pass.{Pass}
 use Rattle.geometry.specs.declared.Superblock.{Superblock}
 use Rattle.edge_steps.specs.FilterSize.{filterSize}
@@ -47,3 +48,7 @@ withoutLevel d = d .decided && not (d .present)
 unfoldable pub levelless : Superblock → Pass → (chroma : Bool) (cells : List ℕ) (place : ℕ) → Bool
 levelless s pass chroma cells place =
     ltb (place % 64) (edgeLen s pass) && withoutLevel (decision s pass chroma cells (place / 64) (place % 64))
+
+-- the place of the first position of cell k, 8 cells to an edge; sub: the subsampling along the edges
+abbrev pub cellPlace : (sub : Bool) (k : ℕ) → ℕ
+cellPlace sub k = 64 * (k / 8) + shr (8 * (k % 8)) sub

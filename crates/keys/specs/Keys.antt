@@ -1,15 +1,18 @@
 -- Keys: what the positions of a cell along an edge filter with, as one number each.
 -- Assumes nothing.
+use mathlib.Core.Path.{_≡_}
 use mathlib.Core.Bool.{Bool, cond, _&&_}
 use mathlib.Core.List.{List}
 use Prim.Native.Nat.{ℕ, _+_, _*_, _/_, _%_}
 use lib.Dec.{ltb}
 use Rattle.base.specs.Filled.{table}
-use Rattle.decisions.specs.Decision.{decision}
+use Rattle.base.specs.First.{found}
+use Rattle.decisions.specs.Decision.{decision, levelless}
 use Rattle.decisions.specs.declared.Decision.{Decision}
 use Rattle.geometry.specs.declared.Pass.{Pass}
 use Rattle.geometry.specs.declared.Superblock.{Superblock}
 use Rattle.pass_edges.specs.PassEdges.{cellStart, edgeCount}
+use Rattle.keys.specs.declared.Keys.{Keys}
 
 -- 0 where nothing is filtered, else 64 times the size plus the level
 unfoldable pub keyOf : Decision → ℕ
@@ -28,3 +31,8 @@ keyIn s pass chroma cells parity k =
 
 unfoldable pub keysOf : Superblock → Pass → (chroma : Bool) (cells : List ℕ) (parity : ℕ) → List ℕ
 keysOf s pass chroma cells parity = table (keyIn s pass chroma cells parity) 64
+
+-- what is told of a pass: its keys, and whether a decided position reads a cell without level
+abbrev pub Told : Superblock → Pass → (chroma : Bool) (cells : List ℕ) → Keys → Type 0
+Told s pass chroma cells r =
+    (r .outer ≡ keysOf s pass chroma cells 0) × (r .inner ≡ keysOf s pass chroma cells 1) × (r .lacking ≡ found (levelless s pass chroma cells) (64 * edgeCount s pass))

@@ -34,7 +34,7 @@ use Rattle.decisions.specs.LevellessLaws.{levelless-at, levelless-behind, level
 use Rattle.keys.specs.EdgeLimitsLaws.{screen-by, block-by, transform-field, transform-by, size-by-limits, index-by}
 use Rattle.keys.specs.Keys.{keyOf, keyAt, keyIn, keysOf}
 use Rattle.keys.specs.PlainKeys.{turnedOf, pairs, limitsOf, plain, field, keyBy, lackBy, plainKey, plainLack, baseOf, placeFrom, wordFrom, wordIn}
-use Rattle.keys.specs.declared.Turned.{Turned}
+use Rattle.keys.specs.declared.turned.Turned.{Turned}
 
 turned-sub : (s : Superblock) (pass : Pass) (chroma : Bool) → turnedOf s pass chroma .sub ≡ sub s pass
 unfolding turnedOf
@@ -42,7 +42,7 @@ turned-sub s Vertical chroma = refl
 turned-sub s Horizontal chroma = refl
 
 -- two edges to a pair
-edge-pairs : (s : Superblock) (pass : Pass) (chroma : Bool) → edgeCount s pass ≡ 2 * pairs (turnedOf s pass chroma .sub)
+pub edge-pairs : (s : Superblock) (pass : Pass) (chroma : Bool) → edgeCount s pass ≡ 2 * pairs (turnedOf s pass chroma .sub)
 unfolding edgeCount
 edge-pairs s pass chroma = rw (turned-sub s pass chroma) (count (sub s pass))
   where
@@ -146,7 +146,7 @@ module _ (s : Superblock) (pass : Pass) (chroma : Bool) (cells : List ℕ) (p : 
         go true on = ap keyOf (decision-by on)
         go false on = rw (on, sym (screen-by s chroma p (2 * (k / 8) + parity) (k % 8) pass) ∙ on)
 
-    lack-by : lacksIn s pass chroma cells parity k ≡ withoutLevel (plainOf (turnedOf s pass chroma) cells parity k)
+    pub lack-by : lacksIn s pass chroma cells parity k ≡ withoutLevel (plainOf (turnedOf s pass chroma) cells parity k)
     unfolding decision plain
     lack-by = go (shownIn s pass parity k) refl
       where
@@ -167,7 +167,7 @@ module _ (s : Superblock) (pass : Pass) (chroma : Bool) (cells : List ℕ) (p : 
         cases true = omega arith
         cases false = omega arith
 
-    word-at : (k : ℕ) → k < 8 * pairs (turnedOf s pass chroma .sub) → getD words k 0 ≡ wordIn (turnedOf s pass chroma) cells k
+    pub word-at : (k : ℕ) → k < 8 * pairs (turnedOf s pass chroma .sub) → getD words k 0 ≡ wordIn (turnedOf s pass chroma) cells k
     word-at k b =
         rw fetched
         (rw (zero-add k) at (filled-at (wordIn (turnedOf s pass chroma) cells) 0 (8 * pairs (turnedOf s pass chroma .sub)) (replicate 64 0) k b (omega (arith, few-pairs, length-replicate {A = ℕ} 64 0))))

@@ -3,3 +3,4 @@ pub mod PlainKeys
 pub mod PlainKeysLaws
 pub mod EdgeLimitsLaws
 pub mod KeysLaws
+pub mod FetchedLaws

@@ -1,19 +1,23 @@
 -- Keys by plain numbers: those of a pass, turned so that it goes from edge to edge and along each; those of an edge; and a cell's word.
 -- Assumes nothing.
+use mathlib.Core.Path.{_≡_}
 use mathlib.Core.Bool.{Bool, cond, not, _&&_, _||_}
 use mathlib.Core.List.{List}
 use Prim.Native.Nat.{ℕ, _+_, _-_, _*_, _/_, _%_, _^_, _≤_, _<_}
 use lib.Dec.{eqb, ltb}
-use lib.ListN.{length, getD}
+use lib.ListN.{length, getD, replicate}
+use Rattle.base.specs.Filled.{filled}
+use Rattle.base.specs.First.{first, found}
 use Rattle.cells.specs.Cell.{bit}
-use Rattle.decisions.specs.Decision.{withoutLevel}
+use Rattle.decisions.specs.Decision.{withoutLevel, cellPlace}
 use Rattle.decisions.specs.declared.Decision.{Decision}
 use Rattle.geometry.specs.declared.Pass.{Pass}
 use Rattle.geometry.specs.declared.Pass.the-variants.{Vertical, Horizontal}
 use Rattle.geometry.specs.declared.Superblock.{Superblock}
 use Rattle.keys.specs.Keys.{keyOf}
-use Rattle.keys.specs.declared.EdgeLimits.{EdgeLimits}
-use Rattle.keys.specs.declared.Turned.{Turned}
+use Rattle.keys.specs.declared.Keys.{Keys}
+use Rattle.keys.specs.declared.edge_limits.EdgeLimits.{EdgeLimits}
+use Rattle.keys.specs.declared.turned.Turned.{Turned}
 
 -- the numbers of a pass: see the struct
 unfoldable pub turnedOf : Superblock → Pass → (chroma : Bool) → Turned
@@ -116,6 +120,21 @@ plainKey t words parity k = keyBy (limitsIn t parity k) (t .log) (t .tx) words k
 unfoldable pub plainLack : Turned → (words : List ℕ) (k : ℕ) → Bool
 plainLack t words k = lackBy (limitsIn t 0 k) (limitsIn t 1 k) (t .log) (t .tx) words k
 
+-- what is told by the words of a pass
+abbrev pub plainKeys : Turned → (words : List ℕ) (parity : ℕ) → List ℕ
+plainKeys t words parity = filled (plainKey t words parity) 0 (8 * pairs (t .sub)) (replicate 64 0)
+
+abbrev pub PlainTold : Turned → (words : List ℕ) → Keys → Type 0
+PlainTold t words r = (r .outer ≡ plainKeys t words 0) × (r .inner ≡ plainKeys t words 1) × (r .lacking ≡ found (plainLack t words) (8 * pairs (t .sub)))
+
+-- whether a level lacks at cell k, 8 cells to an edge; the two edges of a pair read the same words
+unfoldable pub lackAt : Turned → (words : List ℕ) (k : ℕ) → Bool
+lackAt t words k = withoutLevel (plainIn (limitsOf t (k / 8)) (t .log) (t .tx) words (8 * (k / 16) + k % 8))
+
+-- and the place of the first position of the first such cell
+abbrev pub placeBy : Turned → (words : List ℕ) → ℕ
+placeBy t words = cellPlace (t .paired) (first (lackAt t words) (16 * pairs (t .sub)))
+
 -- the place of the first cell that edge pair e reads, and that of the cell at c from there
 abbrev pub baseOf : Turned → (e : ℕ) → ℕ
 baseOf t e = t .from + offset (t .sub) e * t .across
@@ -132,6 +151,10 @@ wordFrom base paired along cells k = getD cells (clamped (placeFrom base paired 
 
 unfoldable pub wordIn : Turned → (cells : List ℕ) (k : ℕ) → ℕ
 wordIn t cells k = wordFrom (baseOf t (k / 8)) (t .paired) (t .along) cells k
+
+-- a list with the words of a pass at its front
+abbrev pub fetched : Turned → (cells words : List ℕ) → List ℕ
+fetched t cells words = filled (wordIn t cells) 0 (8 * pairs (t .sub)) words
 
 -- how large the numbers of a pass are
 pub record Small (t : Turned) : Type 0 where

@@ -20,13 +20,13 @@ mod edge;
 
 use base::is_supported;
 use decided::superblock_of;
-use decisions::first_levelless_unchecked;
 use edge::filter_keys;
 use faults::PassAnswer;
 use faults::list_faults_unchecked;
 use faults::number_faults;
 use geometry::Pass;
 use geometry::Superblock;
+use keys::first_levelless_unchecked;
 use keys::keys_unchecked;
 use pass_edges::pass_of;
 use window::WindowShape;

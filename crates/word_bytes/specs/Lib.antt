@@ -1,1 +1,2 @@
 pub mod WordBytes
+pub mod WordBytesLaws
