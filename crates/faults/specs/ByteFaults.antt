@@ -17,6 +17,13 @@ use Rattle.window.specs.Window.{badWindow, badSample}
 use Rattle.window.specs.declared.WindowShape.{WindowShape}
 use Rattle.faults.specs.FaultsLaws.{lentRefused}
 
+-- refusals 11 and 12, with so many samples lent, and what follows them
+abbrev pub byteListsRefused : {A : Type 0} → WindowShape → Superblock → (cells : List ℕ) (lent : ℕ) → Outcome A → Outcome A
+byteListsRefused g s cells lent after =
+    refuseFirst (badCell cells) (cellsFrom (s .row) (s .cols) (s .rows)) 11
+    (refuse (badWindow g lent) 12 0
+    after)
+
 module _ (g : WindowShape) (depth : ℕ) (samples : List ℕ) (d : admits Byte depth ≡ true) (r : Ranged Byte samples) where
   bytes-good : found (badSample g (2 ^ depth) samples) (g .height * g .width) ≡ false
   unfolding badSample
@@ -28,5 +35,5 @@ module _ (g : WindowShape) (depth : ℕ) (samples : List ℕ) (d : admits Byte d
   -- so 11 and 12 are all that lists decide before the levels
   pub byte-lists : {A : Type 0} (s : Superblock) (cells : List ℕ) (after : Outcome A)
       → lentRefused g s depth cells samples after
-      ≡ refuseFirst (badCell cells) (cellsFrom (s .row) (s .cols) (s .rows)) 11 (refuse (badWindow g (length samples)) 12 0 after)
+      ≡ byteListsRefused g s cells (length samples) after
   byte-lists s cells after = rw bytes-good refl

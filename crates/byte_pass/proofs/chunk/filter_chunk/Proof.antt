@@ -49,9 +49,9 @@ filter-chunk-spec =
     (λ c κs. (c .before .pre .1, c .before .pre .2, c .before .pre .3))
     (search needs)
     (λ c. omega (arith, grid (c .before .before .before .before .before) .1))
-    (λ c κs. (c .before .before .before .before .before .pre .0 .placed, grid (c .before .before .before .before .before)))
+    (λ c κs. let start = c .before .before .before .before .before in (start .pre .0 .placed, grid start .0, grid start .1))
     (λ c. omega (arith, grid (c .before .before .before .before .before .before) .1))
-    (λ c κs. (c .before .before .before .before .before .before .pre .0 .placed, grid (c .before .before .before .before .before .before)))
+    (λ c κs. let start = c .before .before .before .before .before .before in (start .pre .0 .placed, grid start .0, grid start .1))
     filter-at-requires
     (search needs)
     returns

@@ -1,6 +1,6 @@
 use borrow.Author.Needs.{needs}
 use mathlib.Core.Path.{_≡_, ap, _∙_}
-use Prim.Native.Nat.{_-_, _/_, _≤_}
+use Prim.Native.Nat.{ℕ, _-_, _/_, _≤_}
 use native.Mathlib.Omega.{arith}
 use lib.ListN.{length}
 use Rattle.pass.specs.Chunks.{edgeChunks}
@@ -20,16 +20,27 @@ loop-holds : tie.Need-loop-holds Inv-loop μ-loop
 loop-holds c = (omega arith, edge-chunks-none _ _ _ _ _ _ _ _ _)
 
 filter-chunk-requires : tie.Need-filter-chunk-requires Inv-loop μ-loop
-filter-chunk-requires c κs = ?
+filter-chunk-requires c κs =
+    let at-loop = c .before .before in
+    let len = at-loop .before in
+    let start = len .before .before in
+    let p = start .pre in
+    (rw (at-loop .loop .inv .1) (edge-chunks-able _ _ _ _ _ _ _ _ _ _ (p .0)), p .1, p .2, rw (len .edge-len .ensures .0) at (c .before .loop-test .taken), p .3)
 
 loop-again : tie.Need-loop-again Inv-loop μ-loop
-loop-again c = ?
+loop-again c =
+    let at-loop = c .before .before .before .before .before in
+    (omega arith, edge-chunks-next _ _ _ _ _ _ _ _ (at-loop .loop .m) _ _ _ (c .before .before .filter-chunk .ensures) (at-loop .loop .inv .1))
 
 same-length : tie.Need-same-length Inv-loop μ-loop
-same-length c = ?
+same-length c = ap length (c .before .loop .inv .1) ∙ edge-chunks-length _ _ _ _ _ _ _ _ _ _
 
 returns : tie.Need-returns Inv-loop μ-loop
-returns c = ?
+returns c =
+    let len = c .before .before in
+    let a = len .before .before .args in
+    let all : c .before .loop .m ≡ edgeLen (a .s) (a .pass) / 16 = omega (arith, ap (λ (n : ℕ). n / 16) (len .edge-len .ensures .0), c .before .loop .inv .0, c .loop-test .left) in
+    rw all at (c .before .loop .inv .1)
 
 pub filter-edge-spec : {M : Type 1} → statement M
 filter-edge-spec =
