@@ -9,7 +9,7 @@ ghost use Rattle.lane_filters.specs.LaneSamples.{samplesOf, fourOf, sixO
 mod depth;
 mod masks;
 mod narrow;
-mod wide;
+pub mod wide;
 
 use depth::scaled;
 use masks::filter_mask;

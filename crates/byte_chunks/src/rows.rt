@@ -1,0 +1,48 @@
+// Rows of at most 16 samples between the lent list and the table. A row goes through an array of its own, so that it is known to
+// share no sample with either, and is copied as one vector.
+
+fn samples_at(samples: &[u8], at: usize, m: usize) -> [u8; 16] {
+    let mut r = [0u8; 16];
+    let mut k: usize = 0;
+    while k < m {
+        r[k] = samples[at + k];
+        k += 1;
+    }
+    r
+}
+
+fn put_entries(t: &mut [u8; 256], to: usize, r: [u8; 16], m: usize) {
+    let mut k: usize = 0;
+    while k < m {
+        t[to + k] = r[k];
+        k += 1;
+    }
+}
+
+fn entries_at(t: &[u8; 256], from: usize, m: usize) -> [u8; 16] {
+    let mut r = [0u8; 16];
+    let mut k: usize = 0;
+    while k < m {
+        r[k] = t[from + k];
+        k += 1;
+    }
+    r
+}
+
+fn put_samples(samples: &mut [u8], at: usize, r: [u8; 16], m: usize) {
+    let mut k: usize = 0;
+    while k < m {
+        samples[at + k] = r[k];
+        k += 1;
+    }
+}
+
+pub(crate) fn load_row(t: &mut [u8; 256], to: usize, samples: &[u8], at: usize, m: usize) {
+    let r = samples_at(samples, at, m);
+    put_entries(t, to, r, m);
+}
+
+pub(crate) fn store_row(samples: &mut [u8], at: usize, t: &[u8; 256], from: usize, m: usize) {
+    let r = entries_at(t, from, m);
+    put_samples(samples, at, r, m);
+}
