@@ -5,10 +5,22 @@ mod rows;
 
 use across::load_across;
 use across::store_across;
-use byte_lanes::any_of_size_2;
-use byte_lanes::filter_byte_lanes_unchecked;
+use byte_lanes::any_arm;
+use byte_lanes::filter_arms;
+use byte_lanes::lane_arms_unchecked;
 use down::load_down;
 use down::store_down;
+
+// Whether a lane has a key of size 2, which reads all taps.
+fn any_large(keys: &[u8; 16]) -> bool {
+    let mut on = false;
+    let mut l: usize = 0;
+    while l < 16 {
+        on = on | (128 <= keys[l]);
+        l += 1;
+    }
+    on
+}
 
 // The taps of n positions as lanes: all taps where big is set, else p3 to q3.
 fn load(t: &mut [u8; 256], samples: &[u8], at: usize, step: usize, along: usize, n: usize, big: bool) {
@@ -39,10 +51,11 @@ pub fn filter_chunk_unchecked(
     sharpness: u8,
 ) {
     let mut t = [0u8; 256];
-    let big = any_of_size_2(keys);
-    load(&mut t, samples, at, step, along, n, big);
-    let far = filter_byte_lanes_unchecked(&mut t, keys, sharpness, big);
-    if 0 < far {
-        store(samples, at, step, along, n, &mut t, far == 2);
+    load(&mut t, samples, at, step, along, n, any_large(keys));
+    let arms = lane_arms_unchecked(&t, keys, sharpness);
+    let outer = any_arm(&arms, 3);
+    if any_arm(&arms, 1) | any_arm(&arms, 2) | outer {
+        filter_arms(&mut t, keys, &arms);
+        store(samples, at, step, along, n, &mut t, outer);
     }
 }

@@ -1,4 +1,16 @@
 // The line filter (8.8.5) on one lane of bytes, at depth 8.
+ghost use mathlib.Core.Path.{_≡_};
+ghost use mathlib.Core.Bool.{cond};
+ghost use Prim.Native.Nat.{_%_, _/_, _≤_, _<_};
+ghost use lib.Dec.{eqb};
+ghost use Rattle.lane_filters.specs.LaneSamples.{putTaps};
+ghost use Rattle.line.specs.Masks.{hevMask};
+ghost use Rattle.line.specs.NarrowFilter.{narrowFilter};
+ghost use Rattle.strength.specs.Strength.{shift};
+ghost use Rattle.wide_filter.specs.WideFilter.{wideFilter};
+ghost use Rattle.byte_filters.specs.ByteArm.{armOf, topLimit};
+ghost use Rattle.byte_filters.specs.ByteSamples.{bytesOf, byteFourOf, byteSixOf, byteFourteenOf};
+
 mod limits;
 mod masks;
 mod narrow;
@@ -58,7 +70,10 @@ pub struct Sharp {
     pub top: u8,
 }
 
-pub fn sharp_of_unchecked(sharpness: u8) -> Sharp {
+pub fn sharp_of_unchecked(sharpness: u8) -> Sharp
+    requires { ⌜ sharpness ≤ 7 ⌝ }
+    ensures { λ r. ⌜ (r .shift ≡ shift sharpness) × (r .top ≡ topLimit sharpness) ⌝ }
+{
     if sharpness == 0 {
         return Sharp { shift: 0, top: 63 };
     }
@@ -68,30 +83,47 @@ pub fn sharp_of_unchecked(sharpness: u8) -> Sharp {
     Sharp { shift: 2, top: 9 - sharpness }
 }
 
-// The filter that a lane gets by the taps p3 to q3: 0 none, 1 the narrow one, 2 a wide one.
-pub fn inner_arm_unchecked(a: ByteLane, key: u8, sharp: Sharp) -> u8 {
+// The filter that a lane gets by its key: 0 none, 1 the narrow one, 2 the wide one of six samples, 3 that of fourteen.
+// sharp is that of the sharpness, which the contract alone names.
+pub fn lane_arm_unchecked(a: ByteLane, key: u8, sharpness: u8, sharp: Sharp) -> u8
+    requires { ⌜ (key < 192) × (sharpness ≤ 7) × (sharp .shift ≡ shift sharpness) × (sharp .top ≡ topLimit sharpness) ⌝ }
+    ensures { λ r. ⌜ r ≡ armOf sharpness key (bytesOf a) ⌝ }
+{
     let level = key % 64;
     let limit = limit_of(level, sharp.shift, sharp.top);
     let on = (0 < level) & filter_mask(a, limit, blimit_of(level, limit));
-    let wide = (64 <= key) & flat_mask(a);
-    let some = if wide { 2 } else { 1 };
+    let flat = (64 <= key) & flat_mask(a);
+    let flat2 = (128 <= key) & flat_mask2(a);
+    let wide = if flat2 { 3 } else { 2 };
+    let some = if flat { wide } else { 1 };
     if on { some } else { 0 }
 }
 
-// The same by all taps: 3 is the wide filter of fourteen samples.
-pub fn outer_arm(a: ByteLane, key: u8, arm: u8) -> u8 {
-    let most = (arm == 2) & (128 <= key) & flat_mask2(a);
-    if most { 3 } else { arm }
+// The first where the flag is set, else the second.
+fn pick(on: bool, x: u8, y: u8) -> u8
+    ensures { λ r. ⌜ r ≡ cond on x y ⌝ }
+{
+    if on { x } else { y }
 }
 
-// The lane where its arm is 1, 2 and 3. Another lane stays as it is.
+// A lane of arm 1, 2 and 3. Another lane stays as it is.
 
-pub fn byte_four(a: ByteLane, key: u8, arm: u8) -> ByteFour {
-    let hev = hev_mask(a, key % 64 / 16);
-    narrow_filter(a, hev, arm == 1)
+pub fn byte_four(a: ByteLane, key: u8, arm: u8) -> ByteFour
+    ensures { λ r. ⌜ putTaps (bytesOf a) 6 (byteFourOf r) ≡ cond (eqb arm 1) (narrowFilter 8 (hevMask (key % 64 / 16) (bytesOf a)) (bytesOf a)) (bytesOf a) ⌝ }
+{
+    let r = narrow_filter(a, hev_mask(a, key % 64 / 16));
+    let on = arm == 1;
+    ByteFour {
+        p1: pick(on, r.p1, a.p1),
+        p0: pick(on, r.p0, a.p0),
+        q0: pick(on, r.q0, a.q0),
+        q1: pick(on, r.q1, a.q1),
+    }
 }
 
-pub fn byte_six(a: ByteLane, arm: u8) -> ByteSix {
+pub fn byte_six(a: ByteLane, arm: u8) -> ByteSix
+    ensures { λ r. ⌜ putTaps (bytesOf a) 5 (byteSixOf r) ≡ cond (eqb arm 2) (wideFilter 3 (bytesOf a)) (bytesOf a) ⌝ }
+{
     let r = wide_six(a);
     let on = arm == 2;
     ByteSix {
@@ -104,7 +136,9 @@ pub fn byte_six(a: ByteLane, arm: u8) -> ByteSix {
     }
 }
 
-pub fn byte_fourteen(a: ByteLane, arm: u8) -> ByteLane {
+pub fn byte_fourteen(a: ByteLane, arm: u8) -> ByteLane
+    ensures { λ r. ⌜ putTaps (bytesOf a) 1 (byteFourteenOf r) ≡ cond (eqb arm 3) (wideFilter 4 (bytesOf a)) (bytesOf a) ⌝ }
+{
     let r = wide_fourteen(a);
     let on = arm == 3;
     ByteLane {
@@ -125,8 +159,4 @@ pub fn byte_fourteen(a: ByteLane, arm: u8) -> ByteLane {
         q6: pick(on, r.q6, a.q6),
         q7: a.q7,
     }
-}
-
-fn pick(on: bool, x: u8, y: u8) -> u8 {
-    if on { x } else { y }
 }

@@ -6,8 +6,7 @@ use byte_filters::Sharp;
 use byte_filters::byte_four;
 use byte_filters::byte_fourteen;
 use byte_filters::byte_six;
-use byte_filters::inner_arm_unchecked;
-use byte_filters::outer_arm;
+use byte_filters::lane_arm_unchecked;
 use byte_filters::sharp_of_unchecked;
 
 fn lane_at(t: &[u8; 256], l: usize) -> ByteLane {
@@ -66,40 +65,24 @@ fn put_fourteen(t: &mut [u8; 256], l: usize, r: ByteLane) {
     t[224 + l] = r.q6;
 }
 
-// The filter of each lane, by the taps p3 to q3 and by all.
-
-fn inner_arms(arms: &mut [u8; 16], t: &[u8; 256], keys: &[u8; 16], sharp: Sharp) {
+// The filter of each lane by its key.
+pub fn lane_arms_unchecked(t: &[u8; 256], keys: &[u8; 16], sharpness: u8) -> [u8; 16] {
+    let sharp = sharp_of_unchecked(sharpness);
+    let mut arms = [0u8; 16];
     let mut l: usize = 0;
     while l < 16 {
-        arms[l] = inner_arm_unchecked(lane_at(t, l), keys[l], sharp);
+        arms[l] = lane_arm_unchecked(lane_at(t, l), keys[l], sharpness, sharp);
         l += 1;
     }
+    arms
 }
 
-fn outer_arms(arms: &mut [u8; 16], t: &[u8; 256], keys: &[u8; 16]) {
-    let mut l: usize = 0;
-    while l < 16 {
-        arms[l] = outer_arm(lane_at(t, l), keys[l], arms[l]);
-        l += 1;
-    }
-}
-
-fn any_arm(arms: &[u8; 16], arm: u8) -> bool {
+// Whether a lane gets the filter arm.
+pub fn any_arm(arms: &[u8; 16], arm: u8) -> bool {
     let mut on = false;
     let mut l: usize = 0;
     while l < 16 {
         on = on | (arms[l] == arm);
-        l += 1;
-    }
-    on
-}
-
-// Whether a lane has a key of size 2.
-pub fn any_of_size_2(keys: &[u8; 16]) -> bool {
-    let mut on = false;
-    let mut l: usize = 0;
-    while l < 16 {
-        on = on | (128 <= keys[l]);
         l += 1;
     }
     on
@@ -134,31 +117,15 @@ fn lanes_fourteen(t: &mut [u8; 256], arms: &[u8; 16]) {
     }
 }
 
-// The filter of each lane; big where a lane has a key of size 2.
-fn arms_of(t: &[u8; 256], keys: &[u8; 16], sharpness: u8, big: bool) -> [u8; 16] {
-    let mut arms = [0u8; 16];
-    inner_arms(&mut arms, t, keys, sharp_of_unchecked(sharpness));
-    if big {
-        outer_arms(&mut arms, t, keys);
+// Filters each lane by its arm. A loop that would change no lane is left out.
+pub fn filter_arms(t: &mut [u8; 256], keys: &[u8; 16], arms: &[u8; 16]) {
+    if any_arm(arms, 1) {
+        lanes_four(t, keys, arms);
     }
-    arms
-}
-
-// Filters the lanes by their keys. The answer is how far: 0 no sample changes, 1 the taps p3 to q3 at most, 2 any.
-pub fn filter_byte_lanes_unchecked(t: &mut [u8; 256], keys: &[u8; 16], sharpness: u8, big: bool) -> u8 {
-    let arms = arms_of(t, keys, sharpness, big);
-    let narrow = any_arm(&arms, 1);
-    let six = any_arm(&arms, 2);
-    let fourteen = any_arm(&arms, 3);
-    if narrow {
-        lanes_four(t, keys, &arms);
+    if any_arm(arms, 2) {
+        lanes_six(t, arms);
     }
-    if six {
-        lanes_six(t, &arms);
+    if any_arm(arms, 3) {
+        lanes_fourteen(t, arms);
     }
-    if fourteen {
-        lanes_fourteen(t, &arms);
-        return 2;
-    }
-    if narrow | six { 1 } else { 0 }
 }

@@ -1,0 +1,2 @@
+pub mod ByteSamples
+pub mod ByteArm
