@@ -1,13 +1,13 @@
 -- What a key makes of a line of bytes: a key is 64 times the size and the level, and level 0 filters nothing.
 -- Assumes nothing.
-use mathlib.Core.Bool.{Bool, cond, _&&_}
+use mathlib.Core.Bool.{cond, _&&_}
 use mathlib.Core.List.{List}
-use Prim.Native.Nat.{ℕ, zero, suc, _-_, _%_, _/_, _^_, min, max}
+use Prim.Native.Nat.{ℕ, zero, suc, _-_, _%_, _/_}
 use lib.Dec.{eqb, leb, ltb}
 use Rattle.line.specs.Masks.{hevMask, filterMask, flatMask, flatMask2}
 use Rattle.line.specs.NarrowFilter.{narrowFilter}
 use Rattle.line.specs.SampleFiltering.{sampleFiltering}
-use Rattle.strength.specs.Strength.{shift, strengthOf}
+use Rattle.strength.specs.Strength.{strengthOf}
 use Rattle.wide_filter.specs.WideFilter.{wideFilter}
 
 -- the sample filtering process by a key
@@ -31,12 +31,9 @@ armed key (suc zero) t = narrowFilter 8 (hevMask (key % 64 / 16) t) t
 armed key (suc (suc zero)) t = wideFilter 3 t
 armed key (suc (suc (suc n))) t = wideFilter 4 t
 
--- the greatest limit at a sharpness, and the limit of a level by it
+-- the greatest limit at a sharpness
 abbrev pub topLimit : (sharpness : ℕ) → ℕ
 topLimit sharpness = cond (eqb sharpness 0) 63 (9 - sharpness)
 
-abbrev pub cappedLimit : (level shift top : ℕ) → ℕ
-cappedLimit level shift top = max (min (level / 2 ^ shift) top) 1
-
--- to prove: cappedLimit level (shift sharpness) (topLimit sharpness) ≡ limitOf level sharpness for level ≤ 63 and sharpness ≤ 7,
+-- to prove: max (min (level / 2 ^ shift sharpness) (topLimit sharpness)) 1 ≡ limitOf level sharpness for level ≤ 63, sharpness ≤ 7,
 -- and armed key (armOf sharpness key t) t ≡ keyed sharpness key t for key < 192

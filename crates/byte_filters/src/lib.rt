@@ -6,9 +6,8 @@ ghost use lib.Dec.{eqb};
 ghost use Rattle.lane_filters.specs.LaneSamples.{putTaps};
 ghost use Rattle.line.specs.Masks.{hevMask};
 ghost use Rattle.line.specs.NarrowFilter.{narrowFilter};
-ghost use Rattle.strength.specs.Strength.{shift};
 ghost use Rattle.wide_filter.specs.WideFilter.{wideFilter};
-ghost use Rattle.byte_filters.specs.ByteArm.{armOf, topLimit};
+ghost use Rattle.byte_filters.specs.ByteArm.{armOf};
 ghost use Rattle.byte_filters.specs.ByteSamples.{bytesOf, byteFourOf, byteSixOf, byteFourteenOf};
 
 mod limits;
@@ -64,33 +63,13 @@ pub struct ByteSix {
     pub q2: u8,
 }
 
-// What the sharpness makes of each level: the shift and the greatest limit.
-pub struct Sharp {
-    pub shift: u8,
-    pub top: u8,
-}
-
-pub fn sharp_of_unchecked(sharpness: u8) -> Sharp
-    requires { ⌜ sharpness ≤ 7 ⌝ }
-    ensures { λ r. ⌜ (r .shift ≡ shift sharpness) × (r .top ≡ topLimit sharpness) ⌝ }
-{
-    if sharpness == 0 {
-        return Sharp { shift: 0, top: 63 };
-    }
-    if sharpness <= 4 {
-        return Sharp { shift: 1, top: 9 - sharpness };
-    }
-    Sharp { shift: 2, top: 9 - sharpness }
-}
-
 // The filter that a lane gets by its key: 0 none, 1 the narrow one, 2 the wide one of six samples, 3 that of fourteen.
-// sharp is that of the sharpness, which the contract alone names.
-pub fn lane_arm_unchecked(a: ByteLane, key: u8, sharpness: u8, sharp: Sharp) -> u8
-    requires { ⌜ (key < 192) × (sharpness ≤ 7) × (sharp .shift ≡ shift sharpness) × (sharp .top ≡ topLimit sharpness) ⌝ }
+pub fn lane_arm_unchecked(a: ByteLane, key: u8, sharpness: u8) -> u8
+    requires { ⌜ (key < 192) × (sharpness ≤ 7) ⌝ }
     ensures { λ r. ⌜ r ≡ armOf sharpness key (bytesOf a) ⌝ }
 {
     let level = key % 64;
-    let limit = limit_of(level, sharp.shift, sharp.top);
+    let limit = limit_of(level, sharpness);
     let on = (0 < level) & filter_mask(a, limit, blimit_of(level, limit));
     let flat = (64 <= key) & flat_mask(a);
     let flat2 = (128 <= key) & flat_mask2(a);

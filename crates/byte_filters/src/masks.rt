@@ -59,7 +59,9 @@ fn flat_at(pk: u8, p0: u8, qk: u8, q0: u8) -> bool
 pub(crate) fn flat_mask(a: ByteLane) -> bool
     ensures { λ r. ⌜ r ≡ flatMask 1 (bytesOf a) ⌝ }
 {
-    flat_at(a.p1, a.p0, a.q1, a.q0) & flat_at(a.p2, a.p0, a.q2, a.q0) & flat_at(a.p3, a.p0, a.q3, a.q0)
+    flat_at(a.p1, a.p0, a.q1, a.q0)
+        & flat_at(a.p2, a.p0, a.q2, a.q0)
+        & flat_at(a.p3, a.p0, a.q3, a.q0)
 }
 
 pub(crate) fn flat_mask2(a: ByteLane) -> bool

@@ -24,7 +24,10 @@ fn filter_value(base: u8, p0: u8, q0: u8) -> u8
 {
     let up = less(q0, p0);
     let down = less(p0, q0);
-    less(less(less(more(more(more(base, up), up), up), down), down), down)
+    less(
+        less(less(more(more(more(base, up), up), up), down), down),
+        down,
+    )
 }
 
 // c( filter + n ) >> 3, raised by 16.

@@ -2,7 +2,15 @@
 use byte_chunks::filter_chunk_unchecked;
 
 #[no_mangle]
-pub extern "C" fn probe(samples: &mut [u8], at: usize, step: usize, along: usize, n: usize, keys: &[u8; 16], sharpness: u8) {
+pub extern "C" fn probe(
+    samples: &mut [u8],
+    at: usize,
+    step: usize,
+    along: usize,
+    n: usize,
+    keys: &[u8; 16],
+    sharpness: u8,
+) {
     filter_chunk_unchecked(samples, at, step, along, n, keys, sharpness);
 }
 
