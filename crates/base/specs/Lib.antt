@@ -10,3 +10,4 @@ pub mod Tests
 pub mod First
 pub mod FirstLaws
 pub mod Depth
+pub mod Width

@@ -2,6 +2,7 @@
 ghost use mathlib.Core.Path.{_≡_};
 ghost use Prim.Native.Nat.{_≤_};
 ghost use Rattle.base.specs.Outcome.{Answers};
+ghost use Rattle.base.specs.Width.{U16};
 ghost use Rattle.line.specs.Line.{line, returnedOf};
 ghost use Rattle.c_border.specs.Border.{numbersOf};
 use c_border::Refusal;
@@ -18,6 +19,10 @@ fn refusal_of(answer: LineAnswer) -> Refusal
         },
         LineAnswer::Depth => Refusal {
             number: 2,
+            place: 0,
+        },
+        LineAnswer::Short => Refusal {
+            number: 7,
             place: 0,
         },
         LineAnswer::Sample(k) => Refusal {
@@ -44,7 +49,7 @@ pub extern "C" fn springspade_line(
     blimit: u8,
     thresh: u8,
 ) -> Refusal
-    ensures { λ r. ⌜ Answers (line «bit_depth» «filter_size» limit blimit thresh (now (taps .entry))) (numbersOf r) (now (taps .entry)) (now (taps .exit)) ⌝ }
+    ensures { λ r. ⌜ Answers (line U16 «bit_depth» «filter_size» limit blimit thresh (now (taps .entry))) (numbersOf r) (now (taps .entry)) (now (taps .exit)) ⌝ }
 {
     let answer = line::sample_filtering(taps, bit_depth, filter_size, limit, blimit, thresh);
     refusal_of(answer)

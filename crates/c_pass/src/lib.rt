@@ -1,6 +1,7 @@
 // One pass over one superblock of a plane.
 ghost use mathlib.Core.Path.{_≡_};
 ghost use Rattle.base.specs.Outcome.{Answers};
+ghost use Rattle.base.specs.Width.{U16};
 ghost use Rattle.pass.specs.Pass.{superblockLoopFilterCells};
 ghost use Rattle.faults.specs.Faults.{returnedOf};
 ghost use Rattle.c_border.specs.Border.{numbersOf, crossing};
@@ -48,7 +49,7 @@ pub extern "C" fn springspade_pass(
     plane: u8,
     pass: u8,
 ) -> Refusal
-    ensures { λ r. ⌜ Answers (superblockLoopFilterCells (record { width = width; height = height; stride = stride; top = «y_origin» }) sharpness «bit_depth» «sub_x» «sub_y» «mi_cols» «mi_rows» «mi_row» «mi_col» plane pass (now (cells .entry)) (now (samples .entry))) (numbersOf r) (now (samples .entry)) (now (samples .exit)) ⌝ }
+    ensures { λ r. ⌜ Answers (superblockLoopFilterCells U16 (record { width = width; height = height; stride = stride; top = «y_origin» }) sharpness «bit_depth» «sub_x» «sub_y» «mi_cols» «mi_rows» «mi_row» «mi_col» plane pass (now (cells .entry)) (now (samples .entry))) (numbersOf r) (now (samples .entry)) (now (samples .exit)) ⌝ }
 {
     let g = WindowShape {
         width,

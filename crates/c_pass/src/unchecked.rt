@@ -1,6 +1,7 @@
 // One pass over one superblock of a plane, by a caller that has made its tests.
 ghost use mathlib.Core.Path.{_≡_};
 ghost use Rattle.base.specs.Outcome.{accepted};
+ghost use Rattle.base.specs.Width.{U16};
 ghost use Rattle.decided.specs.Decided.{settingOf};
 ghost use Rattle.pass.specs.Pass.{superblockLoopFilter, superblockLoopFilterCells};
 ghost use Rattle.pass_edges.specs.PassEdges.{passOf};
@@ -30,8 +31,8 @@ pub extern "C" fn springspade_pass_unchecked(
     plane: u8,
     pass: u8,
 )
-    requires { ⌜ superblockLoopFilterCells (record { width = width; height = height; stride = stride; top = «y_origin» }) sharpness «bit_depth» «sub_x» «sub_y» «mi_cols» «mi_rows» «mi_row» «mi_col» plane pass (now cells) (now samples) ≡ accepted (superblockLoopFilter (record { width = width; height = height; stride = stride; top = «y_origin» }) (settingOf sharpness «bit_depth» «sub_x» «sub_y» «mi_cols» «mi_rows» «mi_row» «mi_col» plane (now cells)) (passOf pass) (now samples)) ⌝ }
-    ensures { λ r. ⌜ accepted (now (samples .exit)) ≡ superblockLoopFilterCells (record { width = width; height = height; stride = stride; top = «y_origin» }) sharpness «bit_depth» «sub_x» «sub_y» «mi_cols» «mi_rows» «mi_row» «mi_col» plane pass (now (cells .entry)) (now (samples .entry)) ⌝ }
+    requires { ⌜ superblockLoopFilterCells U16 (record { width = width; height = height; stride = stride; top = «y_origin» }) sharpness «bit_depth» «sub_x» «sub_y» «mi_cols» «mi_rows» «mi_row» «mi_col» plane pass (now cells) (now samples) ≡ accepted (superblockLoopFilter (record { width = width; height = height; stride = stride; top = «y_origin» }) (settingOf sharpness «bit_depth» «sub_x» «sub_y» «mi_cols» «mi_rows» «mi_row» «mi_col» plane (now cells)) (passOf pass) (now samples)) ⌝ }
+    ensures { λ r. ⌜ accepted (now (samples .exit)) ≡ superblockLoopFilterCells U16 (record { width = width; height = height; stride = stride; top = «y_origin» }) sharpness «bit_depth» «sub_x» «sub_y» «mi_cols» «mi_rows» «mi_row» «mi_col» plane pass (now (cells .entry)) (now (samples .entry)) ⌝ }
 {
     let g = WindowShape {
         width,

@@ -5,7 +5,6 @@ use mathlib.Core.List.{List}
 use Prim.Native.Nat.{ℕ, _*_, _^_}
 use lib.Dec.{ltb}
 use lib.ListN.{length}
-use Rattle.base.specs.Depth.{supported}
 use Rattle.base.specs.First.{refuseFirst}
 use Rattle.base.specs.Outcome.{Outcome, refuse, Returned}
 use Rattle.bad_words.specs.BadWord.{badCell}
@@ -19,11 +18,11 @@ use Rattle.window.specs.declared.WindowShape.{WindowShape}
 use Rattle.faults.specs.declared.PassAnswer.{PassAnswer}
 use Rattle.faults.specs.declared.PassAnswer.the-variants.{Done, Sharpness, Depth, Subsampling, FrameSize, Row, Short, Plane, Column, Cell, Window, Sample, Level}
 
--- refusals 1 to 10, which numbers decide, and what follows them
-abbrev pub numbersRefused : {A : Type 0} → (sharpness depth subX subY miCols miRows row col plane pass cellsLent : ℕ) → Outcome A → Outcome A
-numbersRefused sharpness depth subX subY miCols miRows row col plane pass cellsLent after =
+-- refusals 1 to 10, which numbers decide, and what follows them; known: whether the samples' width admits the depth
+abbrev pub numbersRefused : {A : Type 0} → (sharpness : ℕ) (known : Bool) (subX subY miCols miRows row col plane pass cellsLent : ℕ) → Outcome A → Outcome A
+numbersRefused sharpness known subX subY miCols miRows row col plane pass cellsLent after =
     refuse (ltb 7 sharpness) 1 0
-    (refuse (not (supported depth)) 2 0
+    (refuse (not known) 2 0
     (refuse (badSubsampling subX subY) 3 0
     (refuse (badFrameSize miCols miRows) 4 0
     (refuse (badStart row miRows) 5 0

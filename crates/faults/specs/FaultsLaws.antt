@@ -8,7 +8,6 @@ use Prim.Native.Nat.{ℕ, _*_, _^_, _≤_}
 use lib.Dec.{ltb}
 use lib.ListN.{length}
 use borrow.Author.Tests.{ltb-false, not-false}
-use Rattle.base.specs.Depth.{supported}
 use Rattle.base.specs.First.{found, refuseFirst}
 use Rattle.base.specs.Outcome.{Outcome, accepted, refused, refuse}
 use Rattle.base.specs.OutcomeLaws.{passed}
@@ -32,34 +31,34 @@ use Rattle.faults.specs.declared.PassAnswer.the-variants.{Done, Sharpnes
 
 -- ---- what the tests of the numbers leave
 
-pub record Numbers (sharpness depth subX subY miCols miRows row col plane pass cellsLent : ℕ) : Type 0 where
+pub record Numbers (sharpness : ℕ) (known : Bool) (subX subY miCols miRows row col plane pass cellsLent : ℕ) : Type 0 where
   pub sharpness-fits : sharpness ≤ 7
-  pub depth-known : supported depth ≡ true
+  pub depth-known : known ≡ true
   pub flags : (subX ≤ 1) × (subY ≤ 1)
   pub plane-known : plane ≤ 2
   pub pass-known : pass ≤ 1
   pub placed-at : (subx suby : Bool) → Placed (record { subx = subx; suby = suby; cols = miCols; rows = miRows; row = row; col = col })
   pub cells-lent : cellsFrom row miCols miRows ≤ cellsLent
 
-pub numbers-passed : {A : Type 0} (sharpness depth subX subY miCols miRows row col plane pass cellsLent : ℕ) (after : Outcome A) {result : A}
-    → numbersRefused sharpness depth subX subY miCols miRows row col plane pass cellsLent after ≡ accepted result
-    → Numbers sharpness depth subX subY miCols miRows row col plane pass cellsLent × (after ≡ accepted result)
-numbers-passed sharpness depth subX subY miCols miRows row col plane pass cellsLent after e =
+pub numbers-passed : {A : Type 0} (sharpness : ℕ) (known : Bool) (subX subY miCols miRows row col plane pass cellsLent : ℕ) (after : Outcome A) {result : A}
+    → numbersRefused sharpness known subX subY miCols miRows row col plane pass cellsLent after ≡ accepted result
+    → Numbers sharpness known subX subY miCols miRows row col plane pass cellsLent × (after ≡ accepted result)
+numbers-passed sharpness known subX subY miCols miRows row col plane pass cellsLent after e =
     let t1 = passed (ltb 7 sharpness) 1 0 _ e in
-    let t2 = passed (not (supported depth)) 2 0 _ (t1 .1) in
+    let t2 = passed (not known) 2 0 _ (t1 .1) in
     let t3 = passed (badSubsampling subX subY) 3 0 _ (t2 .1) in
     let t4 = passed (badFrameSize miCols miRows) 4 0 _ (t3 .1) in
     let t5 = passed (badStart row miRows) 5 0 _ (t4 .1) in
     let t7 = passed (ltb cellsLent (cellsFrom row miCols miRows)) 7 0 _ (t5 .1) in
     let t9 = passed (ltb 2 plane || ltb 1 pass) 9 0 _ (t7 .1) in
-    let known = neither (ltb 2 plane) (t9 .0) in
+    let named = neither (ltb 2 plane) (t9 .0) in
     let t10 = passed (badStart col miCols) 10 0 _ (t9 .1) in (
       record {
         sharpness-fits = ltb-false 7 sharpness (t1 .0);
-        depth-known = not-false (supported depth) (t2 .0);
+        depth-known = not-false known (t2 .0);
         flags = flags subX subY (t3 .0);
-        plane-known = ltb-false 2 plane (known .0);
-        pass-known = ltb-false 1 pass (known .1);
+        plane-known = ltb-false 2 plane (named .0);
+        pass-known = ltb-false 1 pass (named .1);
         placed-at = λ subx suby. placed (record { subx = subx; suby = suby; cols = miCols; rows = miRows; row = row; col = col }) (t4 .0) (t5 .0) (t10 .0);
         cells-lent = ltb-false cellsLent (cellsFrom row miCols miRows) (t7 .0);
       },
@@ -155,15 +154,15 @@ afterwards-then Window a after = refl
 afterwards-then (Sample k) a after = refl
 afterwards-then (Level k) a after = refl
 
-pub numbers-any : {B : Type 0} (sharpness depth subX subY miCols miRows row col plane pass cellsLent : ℕ) (answer : PassAnswer)
-    → ((after : Outcome (List ℕ)) → numbersRefused sharpness depth subX subY miCols miRows row col plane pass cellsLent after ≡ afterwards answer after)
-    → (after : Outcome B) → numbersRefused sharpness depth subX subY miCols miRows row col plane pass cellsLent after ≡ afterwards answer after
-numbers-any sharpness depth subX subY miCols miRows row col plane pass cellsLent answer h after =
+pub numbers-any : {B : Type 0} (sharpness : ℕ) (known : Bool) (subX subY miCols miRows row col plane pass cellsLent : ℕ) (answer : PassAnswer)
+    → ((after : Outcome (List ℕ)) → numbersRefused sharpness known subX subY miCols miRows row col plane pass cellsLent after ≡ afterwards answer after)
+    → (after : Outcome B) → numbersRefused sharpness known subX subY miCols miRows row col plane pass cellsLent after ≡ afterwards answer after
+numbers-any sharpness known subX subY miCols miRows row col plane pass cellsLent answer h after =
     sym then ∙ ap (λ (o : Outcome (List ℕ)). andThen o after) (h none) ∙ afterwards-then answer [] after
   where
     none : Outcome (List ℕ)
     none = accepted []
 
-    then : andThen (numbersRefused sharpness depth subX subY miCols miRows row col plane pass cellsLent none) after
-        ≡ numbersRefused sharpness depth subX subY miCols miRows row col plane pass cellsLent after
+    then : andThen (numbersRefused sharpness known subX subY miCols miRows row col plane pass cellsLent none) after
+        ≡ numbersRefused sharpness known subX subY miCols miRows row col plane pass cellsLent after
     then = simp refuse-then

@@ -12,7 +12,6 @@ ghost use Rattle.faults.specs.Faults.{numbersRefused, returnedOf};
 ghost use Rattle.faults.specs.FaultsLaws.{lentRefused, afterwards};
 use bad_words::any_bad_word_unchecked;
 use bad_words::first_bad_word_unchecked;
-use base::is_supported;
 use geometry::Superblock;
 use geometry::bad_frame_size;
 use geometry::bad_start;
@@ -90,10 +89,10 @@ fn sample_bound(depth: u8) -> u16
     1u16 << depth
 }
 
-// Refusals 1 to 10, of a row with so many cells lent.
+// Refusals 1 to 10, of a row with so many cells lent. Whether the depth is known is the matter of the samples' width.
 pub fn number_faults(
     sharpness: u8,
-    depth: u8,
+    known: bool,
     sub_x: u8,
     sub_y: u8,
     mi_cols: usize,
@@ -104,12 +103,12 @@ pub fn number_faults(
     pass: u8,
     lent: usize,
 ) -> PassAnswer
-    ensures { λ r. ⌜ ((after : Outcome (List ℕ)) → numbersRefused sharpness depth «sub_x» «sub_y» «mi_cols» «mi_rows» row col plane pass lent after ≡ afterwards r after) ⌝ }
+    ensures { λ r. ⌜ ((after : Outcome (List ℕ)) → numbersRefused sharpness known «sub_x» «sub_y» «mi_cols» «mi_rows» row col plane pass lent after ≡ afterwards r after) ⌝ }
 {
     if 7 < sharpness {
         return PassAnswer::Sharpness;
     }
-    if !is_supported(depth) {
+    if !known {
         return PassAnswer::Depth;
     }
     if bad_subsampling(sub_x, sub_y) {

@@ -1,85 +1,84 @@
 -- A run in lanes is the run position by position.
 -- Assumes nothing.
 use mathlib.Core.Path.{_≡_, refl, sym, ap, _∙_}
-use mathlib.Core.Logic.{_⊎_, inl, inr, ⊎-elim}
+use mathlib.Core.Logic.{inl, inr, ⊎-elim}
 use mathlib.Core.List.{List}
-use Prim.Native.Nat.{ℕ, zero, suc, _+_, _-_, _*_, _≤_, _<_}
+use Prim.Native.Nat.{ℕ, _+_, _-_, _*_, _≤_, _<_}
 use native.Mathlib.Nat.{zero-add}
 use native.Mathlib.Omega.{arith}
-use lib.ListN.{length, getD}
-use Rattle.lanes.specs.Lanes.{laneOf, Lanes}
+use lib.ListN.{getD}
+use Rattle.lanes.specs.Lanes.{laneOf, EachLane, Lanes}
 use Rattle.lanes.specs.LanesLaws.{lane-length, lane-tap}
 use Rattle.line.specs.SampleFiltering.{sampleFiltering}
-use Rattle.line.specs.SampleFilteringLaws.{changes, reads, filters-kept, filters-agree}
+use Rattle.line.specs.SampleFilteringLaws.{changes, reads, changes-read, reads-few}
 use Rattle.wide_filter.specs.Taps.{tap, Agree}
-use Rattle.window.specs.InsideRun.{plainRun}
+use Rattle.window.specs.InsideRun.{plainLines, plainRun}
 use Rattle.window.specs.Stencil.{taps, inTurn}
 use Rattle.window.specs.StencilLaws.{gather-at, gather-length}
-use Rattle.lane_runs.specs.Spread.{placeOf, Spread, LaneRun, Loaded}
+use Rattle.lane_runs.specs.Spread.{placeOf, Spread, SpacedRun, Loaded}
+use Rattle.lane_runs.specs.Local.{Local, sample-local}
 use Rattle.lane_runs.specs.PlainRunLaws.{spread-run}
 
--- the first tap that is read, or can change, and how many
-abbrev pub firstRead : ℕ → ℕ
-firstRead size = 8 - reads size
+-- ---- each lane by a line filter of its own
 
-abbrev pub firstChanged : ℕ → ℕ
-firstChanged size = 8 - changes size
-
-record Counts (size : ℕ) : Type 0 where
-  within : changes size ≤ reads size
-  all : reads size ≤ 8
-
-counts : (size : ℕ) → Counts size
-counts zero = record { within = omega arith; all = omega arith }
-counts (suc zero) = record { within = omega arith; all = omega arith }
-counts (suc (suc n)) = record { within = omega arith; all = omega arith }
-
-module _ (B size limit blimit thresh at step along n : ℕ) (w t t′ : List ℕ) where
-  abbrev F : List ℕ → List ℕ
-  F = sampleFiltering B size limit blimit thresh
-
+module _ (f : ℕ → List ℕ → List ℕ) (r c : ℕ) (within : c ≤ r) (all : r ≤ 8) (at step along n : ℕ) (local : (l : ℕ) → l < n → Local r c (f l)) (w t t′ : List ℕ)
+    (run : SpacedRun at step along n w) (loaded : Loaded at step along n (8 - r) (2 * r) w t) (lanes : EachLane n f t t′) where
   abbrev line : ℕ → List ℕ
-  line l = taps (plainRun at step along F l) w
+  line l = taps (plainLines at step along f l) w
 
   line-tap : (l k : ℕ) → k < 16 → tap (line l) k ≡ getD w (placeOf at step along l k) 0
   line-tap l k b =
       gather-at (λ k. placeOf at step along l k) 0 16 w k b ∙ ap (λ (i : ℕ). getD w (placeOf at step along l i) 0) (zero-add k)
 
   -- the lane has the line's samples where they are read
-  loaded-agree : Loaded at step along n (firstRead size) (2 * reads size) w t → (l : ℕ) → l < n → Agree (reads size) (laneOf t l) (line l)
-  loaded-agree loaded l a =
-      let c = counts size in
-      record {
-        same = λ k p q.
-            lane-tap t l k (omega arith)
-            ∙ ap (tap t) (omega arith)
-            ∙ loaded .spread .done l k a (omega arith) (omega arith)
-            ∙ sym (line-tap l k (omega arith));
-      }
+  loaded-agree : (l : ℕ) → l < n → Agree r (laneOf t l) (line l)
+  loaded-agree l a = record {
+    same = λ k p q.
+        lane-tap t l k (omega arith) ∙ ap (tap t) (omega arith) ∙ loaded .done l k a (omega arith) (omega arith) ∙ sym (line-tap l k (omega arith));
+  }
 
-  filtered-tap : LaneRun at step along n w → Loaded at step along n (firstRead size) (2 * reads size) w t → Lanes n F t t′ → (l k : ℕ) → l < n → firstChanged size ≤ k → k < firstChanged size + 2 * changes size → tap t′ (16 * k + l) ≡ tap (F (line l)) k
-  filtered-tap r loaded lanes l k a b d =
-      let c = counts size in
+  filtered-tap : (l k : ℕ) → l < n → 8 - c ≤ k → k < 8 - c + 2 * c → tap t′ (16 * k + l) ≡ tap (f l (line l)) k
+  filtered-tap l k a b d =
       sym (lane-tap t′ l k (omega arith))
       ∙ ap (λ (x : List ℕ). tap x k) (lanes .each l a)
-      ∙ filters-agree B size limit blimit thresh (laneOf t l) (line l) (lane-length t l ∙ sym (gather-length (λ k. placeOf at step along l k) 0 16 w)) (loaded-agree loaded l a) .same k (omega arith) (omega arith)
+      ∙ local l a .agree (laneOf t l) (line l) (lane-length t l) (gather-length (λ k. placeOf at step along l k) 0 16 w) (loaded-agree l a) .same k (omega arith) (omega arith)
 
-  pub lanes-run : (u : List ℕ) → LaneRun at step along n w → Loaded at step along n (firstRead size) (2 * reads size) w t → Lanes n F t t′ → Spread at step along n (firstChanged size) (2 * changes size) (λ l k. tap t′ (16 * k + l)) w u → u ≡ inTurn (plainRun at step along F) n w
-  lanes-run u r loaded lanes stored =
-      let c = counts size in
-      spread-run F at step along n w (r .spaced) (r .lent) (firstChanged size) (2 * changes size) (λ l k. tap t′ (16 * k + l)) u (omega arith)
-      (filtered-tap r loaded lanes)
-      (λ l k a b o. filters-kept B size limit blimit thresh (line l) k (⊎-elim (λ p. inl (omega arith)) (λ p. inr (omega arith)) o) ∙ line-tap l k b)
+  pub each-lane-run : (u : List ℕ) → Spread at step along n (8 - c) (2 * c) (λ l k. tap t′ (16 * k + l)) w u → u ≡ inTurn (plainLines at step along f) n w
+  each-lane-run u stored =
+      spread-run f at step along n w (run .spaced) (run .lent) (8 - c) (2 * c) (λ l k. tap t′ (16 * k + l)) u (omega arith)
+      filtered-tap
+      (λ l k a b o. local l a .kept (line l) k b (⊎-elim (λ p. inl (omega arith)) (λ p. inr (omega arith)) o) ∙ line-tap l k b)
       stored
 
   -- where no lane changes nothing need be stored
-  pub lanes-kept : LaneRun at step along n w → Loaded at step along n (firstRead size) (2 * reads size) w t → Lanes n F t t′ → t′ ≡ t → w ≡ inTurn (plainRun at step along F) n w
-  lanes-kept r loaded lanes e =
-      let c = counts size in
-      lanes-run w r loaded lanes
+  pub each-lane-kept : t′ ≡ t → w ≡ inTurn (plainLines at step along f) n w
+  each-lane-kept e =
+      each-lane-run w
       (record {
         long = refl;
         done = λ l k a b d.
-            sym (ap (λ (x : List ℕ). tap x (16 * k + l)) e ∙ ap (tap t) (omega arith) ∙ loaded .spread .done l k a (omega arith) (omega arith));
+            sym (ap (λ (x : List ℕ). tap x (16 * k + l)) e ∙ ap (tap t) (omega arith) ∙ loaded .done l k a (omega arith) (omega arith));
         kept = λ j h. refl;
       })
+
+-- ---- all lanes by one
+
+-- the first tap that is read, or can change
+abbrev pub firstRead : ℕ → ℕ
+firstRead size = 8 - reads size
+
+abbrev pub firstChanged : ℕ → ℕ
+firstChanged size = 8 - changes size
+
+module _ (B size limit blimit thresh at step along n : ℕ) (w t t′ : List ℕ) (run : SpacedRun at step along n w) (loaded : Loaded at step along n (firstRead size) (2 * reads size) w t)
+    (lanes : Lanes n (sampleFiltering B size limit blimit thresh) t t′) where
+  abbrev F : List ℕ → List ℕ
+  F = sampleFiltering B size limit blimit thresh
+
+  pub lanes-run : (u : List ℕ) → Spread at step along n (firstChanged size) (2 * changes size) (λ l k. tap t′ (16 * k + l)) w u → u ≡ inTurn (plainRun at step along F) n w
+  lanes-run u stored =
+      each-lane-run (λ _. F) (reads size) (changes size) (changes-read size) (reads-few size) at step along n (λ l a. sample-local B size limit blimit thresh) w t t′ run loaded lanes u stored
+
+  pub lanes-kept : t′ ≡ t → w ≡ inTurn (plainRun at step along F) n w
+  lanes-kept e =
+      each-lane-kept (λ _. F) (reads size) (changes size) (changes-read size) (reads-few size) at step along n (λ l a. sample-local B size limit blimit thresh) w t t′ run loaded lanes e

@@ -1,4 +1,5 @@
 pub mod Spread
 pub mod SpreadLaws
 pub mod PlainRunLaws
+pub mod Local
 pub mod LaneRunLaws

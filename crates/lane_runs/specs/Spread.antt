@@ -1,7 +1,7 @@
 -- Samples that stand by position and tap in a list: the lines of a run in the window, and the lanes of a table.
 -- Assumes nothing.
 use mathlib.Core.Path.{_≡_}
-use mathlib.Core.Logic.{_≢_, _⊎_}
+use mathlib.Core.Logic.{_≢_}
 use mathlib.Core.List.{List}
 use Prim.Native.Nat.{ℕ, _+_, _*_, _≤_, _<_}
 use lib.ListN.{length, getD, replicate}
@@ -21,14 +21,17 @@ pub record Spread (at step along n lo m : ℕ) (v : ℕ → ℕ → ℕ) (w u : 
   pub done : (l k : ℕ) → l < n → lo ≤ k → k < lo + m → getD u (placeOf at step along l k) 0 ≡ v l k
   pub kept : (j : ℕ) → ((l k : ℕ) → l < n → lo ≤ k → k < lo + m → j ≢ placeOf at step along l k) → getD u j 0 ≡ getD w j 0
 
--- a run that lanes can filter: at most 16 positions that share no sample, with samples of 12 bits
-pub record LaneRun (at step along n : ℕ) (w : List ℕ) : Type 0 where
+-- a run that lanes can take: at most 16 positions that share no sample
+pub record SpacedRun (at step along n : ℕ) (w : List ℕ) : Type 0 where
   pub few : n ≤ 16
   pub spaced : Spaced at step along n
   pub lent : (l k : ℕ) → l < n → k < 16 → placeOf at step along l k < length w
+
+-- one with samples of 12 bits
+pub record LaneRun (at step along n : ℕ) (w : List ℕ) : Type 0 where
+  pub run : SpacedRun at step along n w
   pub small : (l k : ℕ) → l < n → k < 16 → getD w (placeOf at step along l k) 0 < 4096
 
 -- a table of lanes with the m taps from lo on of the first n positions, zeros else
-pub record Loaded (at step along n lo m : ℕ) (w t : List ℕ) : Type 0 where
-  pub spread : Spread 0 16 1 n lo m (λ l k. getD w (placeOf at step along l k) 0) (replicate 256 0) t
-  pub small : (i : ℕ) → getD t i 0 < 4096
+abbrev pub Loaded : (at step along n lo m : ℕ) (w t : List ℕ) → Type 0
+Loaded at step along n lo m w t = Spread 0 16 1 n lo m (λ l k. getD w (placeOf at step along l k) 0) (replicate 256 0) t

@@ -1,21 +1,20 @@
 -- Laws of samples that are stored position by position, or tap by tap.
 -- Assumes nothing.
 use mathlib.Core.Path.{_≡_, refl, sym, ap, _∙_}
-use mathlib.Core.Logic.{_≢_, _⊎_, inl, inr, ⊎-elim}
+use mathlib.Core.Logic.{_≢_, ⊎-elim}
 use mathlib.Core.Bool.{true}
 use mathlib.Core.List.{List}
-use Prim.Native.Nat.{ℕ, zero, suc, _+_, _-_, _*_, _/_, _≤_, _<_}
-use native.Mathlib.Nat.{add-comm}
+use Prim.Native.Nat.{ℕ, zero, suc, _+_, _-_, _*_, _/_, _%_, _≤_, _<_}
+use native.Mathlib.Decide.{decLt}
 use native.Mathlib.Omega.{arith}
-use lib.Arith.{digits-div, digits-mod}
-use lib.ListN.{length, getD, set, replicate, length-replicate}
+use lib.Arith.{digits-div}
+use lib.ListN.{length, getD, replicate, length-replicate}
 use lib.Seq.{getD-set-same, getD-set-other}
-use Rattle.base.specs.Filled.{set-below}
 use Rattle.base.specs.NotationLaws.{split}
 use Rattle.lanes.specs.Lanes.{Table}
 use Rattle.window.specs.Stencil.{scatter}
 use Rattle.window.specs.StencilLaws.{scatter-length, scatter-other}
-use Rattle.lane_runs.specs.Spread.{placeOf, Spaced, Spread, LaneRun, Loaded}
+use Rattle.lane_runs.specs.Spread.{placeOf, Spaced, Spread, SpacedRun, LaneRun, Loaded}
 
 -- ---- places
 
@@ -50,12 +49,6 @@ scatter-at writes sample (suc m) w inj k h b =
     let y : k ≡ m = omega arith in
     rw y (getD-set-same (scatter (λ i. true) writes sample m w) (writes m) (sample m) 0 (omega (arith, scatter-length (λ i. true) writes sample m w, ap writes y))))
     (split k m)
-
-scatter-below : (b : ℕ) (writes sample : ℕ → ℕ) (m : ℕ) (w : List ℕ) → ((k : ℕ) → k < m → sample k < b) → ((j : ℕ) → getD w j 0 < b) → (j : ℕ) → getD (scatter (λ i. true) writes sample m w) j 0 < b
-unfolding scatter
-scatter-below b writes sample zero w h g j = g j
-scatter-below b writes sample (suc m) w h g j =
-    set-below b (scatter (λ i. true) writes sample m w) (writes m) (sample m) j (h m (omega arith)) (scatter-below b writes sample m w (λ k l. h k (omega arith)) g j)
 
 module _ (at step along N lo m : ℕ) (v : ℕ → ℕ → ℕ) (w : List ℕ) where
   pub spread-no-lanes : Spread at step along 0 lo m v w w
@@ -124,38 +117,49 @@ module _ (at step along N lo m : ℕ) (v : ℕ → ℕ → ℕ) (w : List ℕ) w
 
 -- ---- the table
 
+module _ (at step along N lo m : ℕ) (w : List ℕ) where
+  pub loaded-no-lanes : Loaded at step along 0 lo m w (replicate 256 0)
+  loaded-no-lanes = spread-no-lanes 0 16 1 16 lo m _ (replicate 256 0)
+
+  pub loaded-no-taps : (n : ℕ) → Loaded at step along n lo 0 w (replicate 256 0)
+  loaded-no-taps n = spread-no-taps 0 16 1 16 lo m _ (replicate 256 0) n
+
+  room : (l k : ℕ) → l < 16 → k < 16 → placeOf 0 16 1 l k < length {A = ℕ} (replicate 256 0)
+  room l k a b = omega (arith, length-replicate {A = ℕ} 256 0)
+
+  pub loaded-lane : (n : ℕ) (t u : List ℕ) (reads : ℕ → ℕ) → SpacedRun at step along N w → n < N → lo + m ≤ 16 → ((k : ℕ) → k < m → reads k ≡ placeOf at step along n (lo + k)) → Loaded at step along n lo m w t
+      → u ≡ scatter (λ k. true) (λ k. 16 * (lo + k) + n) (λ k. getD w (reads k) 0) m t → Loaded at step along (n + 1) lo m w u
+  loaded-lane n t u reads r few taps is inv e =
+      let le = r .few in
+      spread-lane 0 16 1 16 lo m _ (replicate 256 0) n t u (λ k. 16 * (lo + k) + n) (λ k. getD w (reads k) 0) spaced-table (omega arith) taps (λ k b. room n k (omega arith) b) (λ k b. omega arith) (λ k b. ap (λ (i : ℕ). getD w i 0) (is k b)) inv e
+
+  pub loaded-tap : (n : ℕ) (t u : List ℕ) (reads : ℕ → ℕ) → SpacedRun at step along n w → lo + m < 16 → ((l : ℕ) → l < n → reads l ≡ placeOf at step along l (lo + m)) → Loaded at step along n lo m w t
+      → u ≡ scatter (λ l. true) (λ l. 16 * (lo + m) + l) (λ l. getD w (reads l) 0) n t → Loaded at step along n lo (m + 1) w u
+  loaded-tap n t u reads r taps is inv e =
+      let le = r .few in
+      spread-tap 0 16 1 16 lo m _ (replicate 256 0) n t u (λ l. 16 * (lo + m) + l) (λ l. getD w (reads l) 0) spaced-table (omega arith) taps (λ l b. room l (lo + m) (omega arith) taps) (λ l b. omega arith) (λ l b. ap (λ (i : ℕ). getD w i 0) (is l b)) inv e
+
 zeros-small : (n i : ℕ) → getD (replicate n 0) i 0 < 4096
 zeros-small zero i = omega arith
 zeros-small (suc n) zero = omega arith
 zeros-small (suc n) (suc i) = zeros-small n i
 
-module _ (at step along N lo m : ℕ) (w : List ℕ) where
-  pub loaded-no-lanes : Loaded at step along 0 lo m w (replicate 256 0)
-  loaded-no-lanes = record { spread = spread-no-lanes 0 16 1 16 lo m _ (replicate 256 0); small = zeros-small 256 }
+-- samples of 12 bits and zeros
+pub loaded-table : {at step along n lo m : ℕ} {w t : List ℕ} → LaneRun at step along n w → lo + m ≤ 16 → Loaded at step along n lo m w t → Table t
+loaded-table {at} {step} {along} {n} {lo} {m} {w} {t} r taps inv = record {
+  long = inv .long ∙ length-replicate {A = ℕ} 256 0;
+  small = λ i b. small i (decLt (i % 16) n) (decLt (i / 16) lo) (decLt (i / 16) (lo + m));
+}
+  where
+    -- an entry that is no tap is 0
+    other : (i : ℕ) → ((l k : ℕ) → l < n → lo ≤ k → k < lo + m → i ≢ placeOf 0 16 1 l k) → getD t i 0 < 4096
+    other i h = rw (inv .kept i h) (zeros-small 256 i)
 
-  pub loaded-no-taps : (n : ℕ) → Loaded at step along n lo 0 w (replicate 256 0)
-  loaded-no-taps n = record { spread = spread-no-taps 0 16 1 16 lo m _ (replicate 256 0) n; small = zeros-small 256 }
-
-  room : (l k : ℕ) → l < 16 → k < 16 → placeOf 0 16 1 l k < length {A = ℕ} (replicate 256 0)
-  room l k a b = omega (arith, length-replicate {A = ℕ} 256 0)
-
-  pub loaded-lane : (n : ℕ) (t u : List ℕ) (reads : ℕ → ℕ) → LaneRun at step along N w → n < N → lo + m ≤ 16 → ((k : ℕ) → k < m → reads k ≡ placeOf at step along n (lo + k)) → Loaded at step along n lo m w t
-      → u ≡ scatter (λ k. true) (λ k. 16 * (lo + k) + n) (λ k. getD w (reads k) 0) m t → Loaded at step along (n + 1) lo m w u
-  loaded-lane n t u reads r few taps is inv e =
-      let le = r .few in
-      rw e record {
-        spread = spread-lane 0 16 1 16 lo m _ (replicate 256 0) n t _ (λ k. 16 * (lo + k) + n) (λ k. getD w (reads k) 0) spaced-table (omega arith) taps (λ k b. room n k (omega arith) b) (λ k b. omega arith) (λ k b. ap (λ (i : ℕ). getD w i 0) (is k b)) (inv .spread) refl;
-        small = scatter-below 4096 (λ k. 16 * (lo + k) + n) (λ k. getD w (reads k) 0) m t (λ k b. rw (is k b) (r .small n (lo + k) few (omega arith))) (inv .small);
-      }
-
-  pub loaded-tap : (n : ℕ) (t u : List ℕ) (reads : ℕ → ℕ) → LaneRun at step along n w → lo + m < 16 → ((l : ℕ) → l < n → reads l ≡ placeOf at step along l (lo + m)) → Loaded at step along n lo m w t
-      → u ≡ scatter (λ l. true) (λ l. 16 * (lo + m) + l) (λ l. getD w (reads l) 0) n t → Loaded at step along n lo (m + 1) w u
-  loaded-tap n t u reads r taps is inv e =
-      let le = r .few in
-      rw e record {
-        spread = spread-tap 0 16 1 16 lo m _ (replicate 256 0) n t _ (λ l. 16 * (lo + m) + l) (λ l. getD w (reads l) 0) spaced-table (omega arith) taps (λ l b. room l (lo + m) (omega arith) taps) (λ l b. omega arith) (λ l b. ap (λ (i : ℕ). getD w i 0) (is l b)) (inv .spread) refl;
-        small = scatter-below 4096 (λ l. 16 * (lo + m) + l) (λ l. getD w (reads l) 0) n t (λ l b. rw (is l b) (r .small l (lo + m) b taps)) (inv .small);
-      }
-
-  pub loaded-table : (n : ℕ) (t : List ℕ) → Loaded at step along n lo m w t → Table t
-  loaded-table n t inv = record { long = inv .spread .long ∙ length-replicate {A = ℕ} 256 0; small = λ i b. inv .small i }
+    small : (i : ℕ) → Dec (i % 16 < n) → Dec (i / 16 < lo) → Dec (i / 16 < lo + m) → getD t i 0 < 4096
+    small i (yes a) (no b) (yes d) =
+        let place : i ≡ placeOf 0 16 1 (i % 16) (i / 16) = omega arith in
+        let is = ap (λ (j : ℕ). getD t j 0) place ∙ inv .done (i % 16) (i / 16) a (omega arith) d in
+        rw is (r .small (i % 16) (i / 16) a (omega arith))
+    small i (no a) b d = other i (λ l k x y z e. omega (arith, r .run .few))
+    small i (yes a) (yes b) d = other i (λ l k x y z e. omega (arith, r .run .few))
+    small i (yes a) (no b) (no d) = other i (λ l k x y z e. omega (arith, r .run .few))

@@ -7,7 +7,7 @@ ghost use Rattle.base.specs.Depth.{supported};
 ghost use Rattle.line.specs.SampleFiltering.{sampleFiltering};
 ghost use Rattle.window.specs.InsideRun.{plainRun};
 ghost use Rattle.window.specs.Stencil.{scatter, inTurn};
-ghost use Rattle.lane_runs.specs.Spread.{Spread, LaneRun, Loaded};
+ghost use Rattle.lane_runs.specs.Spread.{Spread, SpacedRun, LaneRun, Loaded};
 use lanes::filter_lanes_unchecked;
 use strength::FilterStrength;
 
@@ -31,7 +31,7 @@ fn gather_lanes(
     lo: usize,
     m: usize,
 ) -> [u16; 256]
-    requires { ⌜ LaneRun at 1 along n (now samples) × (lo + m ≤ 16) ⌝ }
+    requires { ⌜ SpacedRun at 1 along n (now samples) × (lo + m ≤ 16) ⌝ }
     ensures { λ r. ⌜ Loaded at 1 along n lo m (now (samples .entry)) r ⌝ }
 {
     let mut t = [0u16; 256];
@@ -63,7 +63,7 @@ fn scatter_lanes(
     lo: usize,
     m: usize,
 )
-    requires { ⌜ LaneRun at 1 along n (now samples) × (lo + m ≤ 16) ⌝ }
+    requires { ⌜ SpacedRun at 1 along n (now samples) × (lo + m ≤ 16) ⌝ }
     ensures { λ r. ⌜ Spread at 1 along n lo m (λ l k. getD (now (t .entry)) (16 * k + l) 0) (now (samples .entry)) (now (samples .exit)) ⌝ }
 {
     let mut l: usize = 0;

@@ -7,7 +7,7 @@ ghost use Rattle.base.specs.Depth.{supported};
 ghost use Rattle.line.specs.SampleFiltering.{sampleFiltering};
 ghost use Rattle.window.specs.InsideRun.{plainRun};
 ghost use Rattle.window.specs.Stencil.{scatter, inTurn};
-ghost use Rattle.lane_runs.specs.Spread.{Spread, LaneRun, Loaded};
+ghost use Rattle.lane_runs.specs.Spread.{Spread, SpacedRun, LaneRun, Loaded};
 use lanes::filter_lanes_unchecked;
 use strength::FilterStrength;
 
@@ -40,7 +40,7 @@ fn load_row(t: &mut [u16; 256], k: usize, samples: &[u16], at: usize, n: usize)
 
 // The m taps from lo on.
 fn gather_rows(samples: &[u16], at: usize, step: usize, n: usize, lo: usize, m: usize) -> [u16; 256]
-    requires { ⌜ LaneRun at step 1 n (now samples) × (0 < n) × (lo + m ≤ 16) ⌝ }
+    requires { ⌜ SpacedRun at step 1 n (now samples) × (0 < n) × (lo + m ≤ 16) ⌝ }
     ensures { λ r. ⌜ Loaded at step 1 n lo m (now (samples .entry)) r ⌝ }
 {
     let mut t = [0u16; 256];
@@ -87,7 +87,7 @@ fn scatter_rows(
     lo: usize,
     m: usize,
 )
-    requires { ⌜ LaneRun at step 1 n (now samples) × (0 < n) × (lo + m ≤ 16) ⌝ }
+    requires { ⌜ SpacedRun at step 1 n (now samples) × (0 < n) × (lo + m ≤ 16) ⌝ }
     ensures { λ r. ⌜ Spread at step 1 n lo m (λ l k. getD (now (t .entry)) (16 * k + l) 0) (now (samples .entry)) (now (samples .exit)) ⌝ }
 {
     let mut j: usize = 0;

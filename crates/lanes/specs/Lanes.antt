@@ -29,14 +29,21 @@ pub record Table (t : List ℕ) : Type 0 where
   pub long : length t ≡ 256
   pub small : (i : ℕ) → i < 256 → tap t i < 4096
 
--- of the lists t before and u after: each of the first n lanes is f of what it was
-pub record Lanes (n : ℕ) (f : List ℕ → List ℕ) (t u : List ℕ) : Type 0 where
-  pub each : (l : ℕ) → l < n → laneOf u l ≡ f (laneOf t l)
+-- of the lists t before and u after: each lane l of the first n is f l of what it was
+pub record EachLane (n : ℕ) (f : ℕ → List ℕ → List ℕ) (t u : List ℕ) : Type 0 where
+  pub each : (l : ℕ) → l < n → laneOf u l ≡ f l (laneOf t l)
 
--- the first m lanes are f of what they were, and the others are kept
-pub record LanesTo (m : ℕ) (f : List ℕ → List ℕ) (t u : List ℕ) : Type 0 where
-  pub done : (l : ℕ) → l < m → laneOf u l ≡ f (laneOf t l)
+-- the first m lanes are so, and the others are kept
+pub record EachLaneTo (m : ℕ) (f : ℕ → List ℕ → List ℕ) (t u : List ℕ) : Type 0 where
+  pub done : (l : ℕ) → l < m → laneOf u l ≡ f l (laneOf t l)
   pub rest : (l : ℕ) → m ≤ l → l < 16 → laneOf u l ≡ laneOf t l
+
+-- the same by one f for all lanes
+abbrev pub Lanes : (n : ℕ) (f : List ℕ → List ℕ) (t u : List ℕ) → Type 0
+Lanes n f t u = EachLane n (λ _. f) t u
+
+abbrev pub LanesTo : (m : ℕ) (f : List ℕ → List ℕ) (t u : List ℕ) → Type 0
+LanesTo m f t u = EachLaneTo m (λ _. f) t u
 
 -- the filter mask is off in those of the first m lanes that are below n
 pub record NoneTo (m n depth limit blimit : ℕ) (t : List ℕ) : Type 0 where

@@ -18,7 +18,7 @@ use Rattle.line.specs.Masks.{filterMask}
 use Rattle.line.specs.SampleFiltering.{sampleFiltering}
 use Rattle.line.specs.SampleFilteringLaws.{filters-none}
 use Rattle.wide_filter.specs.Taps.{tap}
-use Rattle.lanes.specs.Lanes.{laneAt, laneOf, putLane, Table, Lanes, LanesTo, NoneTo}
+use Rattle.lanes.specs.Lanes.{laneAt, laneOf, putLane, Table, EachLane, EachLaneTo, Lanes, NoneTo}
 
 pub lane-length : (t : List ℕ) (l : ℕ) → length (laneOf t l) ≡ 16
 unfolding laneOf
@@ -101,18 +101,18 @@ put-other t l k (v ∷ vs) m h g d = put-other (set t (16 * k + l) v) l (k + 1) 
 
 -- ---- a loop over lanes
 
-pub lanes-none : (f : List ℕ → List ℕ) (t : List ℕ) → LanesTo 0 f t t
-lanes-none f t = record { done = λ l b. absurd (omega arith); rest = λ l b c. refl }
+pub lanes-none : {f : ℕ → List ℕ → List ℕ} (t : List ℕ) → EachLaneTo 0 f t t
+lanes-none t = record { done = λ l b. absurd (omega arith); rest = λ l b c. refl }
 
 -- a lane more is done
-lane-step : (f : List ℕ → List ℕ) (t u : List ℕ) (m k : ℕ) (vs : List ℕ) → length u ≡ 256 → m < 16 → k + length vs ≤ 16 → putTaps (laneOf u m) k vs ≡ f (laneOf u m) → LanesTo m f t u → LanesTo (m + 1) f t (putLane u m k vs)
+lane-step : (f : ℕ → List ℕ → List ℕ) (t u : List ℕ) (m k : ℕ) (vs : List ℕ) → length u ≡ 256 → m < 16 → k + length vs ≤ 16 → putTaps (laneOf u m) k vs ≡ f m (laneOf u m) → EachLaneTo m f t u → EachLaneTo (m + 1) f t (putLane u m k vs)
 lane-step f t u m k vs n h g e inv =
     record { done = done; rest = λ l b c. put-other u m k vs l h c (λ x. omega arith) ∙ inv .rest l (omega arith) c }
   where
-    last : laneOf (putLane u m k vs) m ≡ f (laneOf t m)
-    last = put-own u m k vs n h g ∙ e ∙ ap f (inv .rest m (omega arith) h)
+    last : laneOf (putLane u m k vs) m ≡ f m (laneOf t m)
+    last = put-own u m k vs n h g ∙ e ∙ ap (f m) (inv .rest m (omega arith) h)
 
-    done : (l : ℕ) → l < m + 1 → laneOf (putLane u m k vs) l ≡ f (laneOf t l)
+    done : (l : ℕ) → l < m + 1 → laneOf (putLane u m k vs) l ≡ f l (laneOf t l)
     done l b =
         ⊎-elim (λ (x : l < m). put-other u m k vs l h (omega arith) (λ y. omega arith) ∙ inv .done l x)
         (λ (x : m ≤ l). let y : l ≡ m = omega arith in rw y last)
@@ -122,17 +122,17 @@ samples-lane : (t : List ℕ) (l : ℕ) → samplesOf (laneAt t l) ≡ laneOf t 
 unfolding laneOf
 samples-lane t l = refl
 
-pub lane-more : {f : List ℕ → List ℕ} {m : ℕ} {t u v : List ℕ} {a : Lane} (k : ℕ) (vs : List ℕ) → m < 16 → k + length vs ≤ 16 → length u ≡ 256 → LanesTo m f t u → a ≡ laneAt u m → putTaps (samplesOf a) k vs ≡ f (samplesOf a) → v ≡ putLane u m k vs → (length v ≡ 256) × LanesTo (m + 1) f t v
+pub lane-more : {f : ℕ → List ℕ → List ℕ} {m : ℕ} {t u v : List ℕ} {a : Lane} (k : ℕ) (vs : List ℕ) → m < 16 → k + length vs ≤ 16 → length u ≡ 256 → EachLaneTo m f t u → a ≡ laneAt u m → putTaps (samplesOf a) k vs ≡ f m (samplesOf a) → v ≡ putLane u m k vs → (length v ≡ 256) × EachLaneTo (m + 1) f t v
 lane-more {f} {m} {t} {u} {v} {a} k vs h g n inv is e d =
     let q : samplesOf a ≡ laneOf u m = ap samplesOf is ∙ samples-lane u m in (
       ap length d ∙ put-length u m k vs ∙ n,
-      rw d (lane-step f t u m k vs n h g (ap (λ (x : List ℕ). putTaps x k vs) (sym q) ∙ e ∙ ap f q) inv),
+      rw d (lane-step f t u m k vs n h g (ap (λ (x : List ℕ). putTaps x k vs) (sym q) ∙ e ∙ ap (f m) q) inv),
     )
 
-pub lanes-fewer : {n m : ℕ} {f : List ℕ → List ℕ} {t u : List ℕ} → n ≤ m → Lanes m f t u → Lanes n f t u
+pub lanes-fewer : {n m : ℕ} {f : ℕ → List ℕ → List ℕ} {t u : List ℕ} → n ≤ m → EachLane m f t u → EachLane n f t u
 lanes-fewer h all = record { each = λ l b. all .each l (omega arith) }
 
-pub lanes-all : {n m : ℕ} {f : List ℕ → List ℕ} {t u : List ℕ} → n ≤ m → LanesTo m f t u → Lanes n f t u
+pub lanes-all : {n m : ℕ} {f : ℕ → List ℕ → List ℕ} {t u : List ℕ} → n ≤ m → EachLaneTo m f t u → EachLane n f t u
 lanes-all h inv = record { each = λ l b. inv .done l (omega arith) }
 
 -- ---- samples of 12 bits
@@ -151,7 +151,7 @@ unfolding laneOf named
 named-lane t l = refl
 
 -- a lane that is not done yet has the samples that it had
-pub small-in : {m : ℕ} {f : List ℕ → List ℕ} {t u : List ℕ} → m < 16 → Table t → LanesTo m f t u → Small (laneAt u m)
+pub small-in : {m : ℕ} {f : ℕ → List ℕ → List ℕ} {t u : List ℕ} → m < 16 → Table t → EachLaneTo m f t u → Small (laneAt u m)
 small-in {m} {f} {t} {u} h s inv =
     rw (named-lane u m, inv .rest m (omega arith) h, ← named-lane t m) (small-at t m h s)
 

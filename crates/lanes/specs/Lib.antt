@@ -1,2 +1,4 @@
+pub mod KeyLine
+pub mod KeyLineLaws
 pub mod Lanes
 pub mod LanesLaws

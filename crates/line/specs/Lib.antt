@@ -7,3 +7,4 @@ pub mod SampleFilteringLaws
 pub mod Line
 pub mod LineLaws
 pub mod LineStandard
+pub mod LineWidths

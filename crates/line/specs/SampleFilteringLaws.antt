@@ -172,7 +172,7 @@ filters-agree B size limit blimit thresh t u e a =
 
 -- ---- one tap
 
-changes-read : (size : ℕ) → changes size ≤ reads size
+pub changes-read : (size : ℕ) → changes size ≤ reads size
 changes-read zero = omega arith
 changes-read (suc zero) = omega arith
 changes-read (suc (suc n)) = omega arith

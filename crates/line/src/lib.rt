@@ -5,6 +5,7 @@ ghost use Prim.Native.Nat.{_<_};
 ghost use Rattle.base.specs.Depth.{supported};
 ghost use Rattle.base.specs.First.{first, found};
 ghost use Rattle.base.specs.Outcome.{Answers};
+ghost use Rattle.base.specs.Width.{U16};
 ghost use Rattle.line.specs.SampleFiltering.{sampleFiltering};
 ghost use Rattle.line.specs.Line.{reaches, line, returnedOf};
 
@@ -26,6 +27,7 @@ use wide_filter::wide_filter_six;
 pub enum LineAnswer {
     Done,
     Depth,
+    Short,
     Sample(usize),
     Size,
 }
@@ -89,7 +91,7 @@ pub fn sample_filtering(
     blimit: u8,
     thresh: u8,
 ) -> LineAnswer
-    ensures { λ r. ⌜ Answers (line depth size limit blimit thresh (now (t .entry))) (returnedOf r) (now (t .entry)) (now (t .exit)) ⌝ }
+    ensures { λ r. ⌜ Answers (line U16 depth size limit blimit thresh (now (t .entry))) (returnedOf r) (now (t .entry)) (now (t .exit)) ⌝ }
 {
     if !is_supported(depth) {
         return LineAnswer::Depth;

@@ -6,11 +6,11 @@ use mathlib.Core.List.{List, [], _∷_, _++_}
 use Prim.Native.Nat.{ℕ}
 use native.Mathlib.Omega.{arith}
 use lib.ListN.{getD, replicate}
-use Rattle.base.specs.Depth.{supported}
 use Rattle.base.specs.Filled.{filled}
 use Rattle.base.specs.First.{found, firstFrom}
 use Rattle.base.specs.Notation.{Clip3}
 use Rattle.base.specs.Outcome.{Outcome, refused, returned}
+use Rattle.base.specs.Width.{Byte}
 use Rattle.cells.specs.Cell.{cellOf}
 use Rattle.bad_words.specs.BadWord.{badWord}
 use Rattle.decisions.specs.Decision.{cellIndex, decisionBy, decision, levelless}
@@ -53,14 +53,14 @@ case-s-samples = refl
 
 -- with its second cell without level it is refused, with only its first it is not
 abbrev answered : List ℕ → Outcome (List ℕ)
-answered cells = superblockLoopFilterCells row16 0 8 0 0 2 1 0 0 0 0 cells (replicate 16 100)
+answered cells = superblockLoopFilterCells Byte row16 0 8 0 0 2 1 0 0 0 0 cells (replicate 16 100)
 
 case-s-levelless : answered (290848768 ∷ 290455552 ∷ []) ≡ refused 14 128
-unfolding superblockLoopFilterCells supported badSubsampling badFrameSize badStart badWord badWindow badSample found firstFrom levelless decision decisionBy cellIndex cellOf onScreen lumaX lumaY loopCell isBlockEdge isTxEdge is32Edge filterSize applyFilter edgeCount edgeLen
+unfolding superblockLoopFilterCells badSubsampling badFrameSize badStart badWord badWindow badSample found firstFrom levelless decision decisionBy cellIndex cellOf onScreen lumaX lumaY loopCell isBlockEdge isTxEdge is32Edge filterSize applyFilter edgeCount edgeLen
 case-s-levelless = refl
 
 case-s-first : returned (answered (290455552 ∷ 290848768 ∷ [])) ≡ record { number = 0; place = 0 }
-unfolding superblockLoopFilterCells supported badSubsampling badFrameSize badStart badWord badWindow badSample found firstFrom levelless decision decisionBy cellIndex cellOf onScreen lumaX lumaY loopCell isBlockEdge isTxEdge is32Edge filterSize applyFilter edgeCount edgeLen
+unfolding superblockLoopFilterCells badSubsampling badFrameSize badStart badWord badWindow badSample found firstFrom levelless decision decisionBy cellIndex cellOf onScreen lumaX lumaY loopCell isBlockEdge isTxEdge is32Edge filterSize applyFilter edgeCount edgeLen
 case-s-first = refl
 
 -- With transform 0 the edges at x = 4, 8 and 12 are decided. Edge 1 changes the samples at 2 to 5, of which edge 2 reads two: after

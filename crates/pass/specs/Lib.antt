@@ -1,8 +1,11 @@
 pub mod Pass
 pub mod WorkLaws
 pub mod WalkLaws
+pub mod Chunks
+pub mod ChunkLaws
 pub mod PassLaws
 pub mod OrderOfWork
 pub mod PassRange
 pub mod PassFront
 pub mod Cases
+pub mod PassWidths

@@ -9,6 +9,7 @@ use Prim.Native.Nat.{ℕ, _+_, _*_, _<_}
 use native.Mathlib.Omega.{arith}
 use lib.ListN.{length, getD}
 use Rattle.base.specs.Outcome.{accepted}
+use Rattle.base.specs.Width.{Width}
 use Rattle.positions.specs.Positions.{lumaX, lumaY, planeX, planeY}
 use Rattle.pass_edges.specs.PassEdges.{passOf, edgeCount, edgeLen}
 use Rattle.geometry.specs.Coordinates.{shl, shr}
@@ -161,11 +162,12 @@ order-of-steps g t pass samples w order o = record {
   others = steps-other g _ w t pass (decided t pass) samples;
 }
 
--- and of the operation, as its contract states it, whatever it is given: where it accepts, all orders of work come to its result
-pub order-of-work : (g : WindowShape) (sharpness depth subX subY miCols miRows row col plane pass : ℕ) (cells samples result : List ℕ)
-    → superblockLoopFilterCells g sharpness depth subX subY miCols miRows row col plane pass cells samples ≡ accepted result
+-- and of the operation at each width of samples, as its contract states it, whatever it is given: where it accepts, all orders of
+-- work come to its result
+pub order-of-work : (width : Width) (g : WindowShape) (sharpness depth subX subY miCols miRows row col plane pass : ℕ) (cells samples result : List ℕ)
+    → superblockLoopFilterCells width g sharpness depth subX subY miCols miRows row col plane pass cells samples ≡ accepted result
     → (order : List Position) → WorkOrder (decided (settingOf sharpness depth subX subY miCols miRows row col plane cells) (passOf pass)) order
     → SameEnd g (settingOf sharpness depth subX subY miCols miRows row col plane cells) (passOf pass) samples result order
-order-of-work g sharpness depth subX subY miCols miRows row col plane pass cells samples result e order o =
-    let r = ran g sharpness depth subX subY miCols miRows row col plane pass cells samples result e in
+order-of-work width g sharpness depth subX subY miCols miRows row col plane pass cells samples result e order o =
+    let r = ran width g sharpness depth subX subY miCols miRows row col plane pass cells samples result e in
     rw (r .result-is) (order-of-steps g (settingOf sharpness depth subX subY miCols miRows row col plane cells) (passOf pass) samples (r .lists .window-lent) order o)

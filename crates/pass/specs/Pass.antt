@@ -4,6 +4,7 @@ use mathlib.Core.List.{List}
 use Prim.Native.Nat.{ℕ}
 use lib.ListN.{length}
 use Rattle.base.specs.Outcome.{Outcome, accepted}
+use Rattle.base.specs.Width.{Width, admits}
 use Rattle.faults.specs.Faults.{numbersRefused, listsRefused}
 use Rattle.positions.specs.Positions.{planeX, planeY}
 use Rattle.pass_edges.specs.PassEdges.{passOf}
@@ -34,10 +35,10 @@ step g t pass p samples =
 unfoldable pub superblockLoopFilter : WindowShape → Setting → Pass → List ℕ → List ℕ
 superblockLoopFilter g t pass samples = run (step g t pass) (decided t pass) samples
 
--- the operation with document 01's refusals
-unfoldable pub superblockLoopFilterCells : WindowShape → (sharpness depth subX subY miCols miRows row col plane pass : ℕ) (cells samples : List ℕ) → Outcome (List ℕ)
-superblockLoopFilterCells g sharpness depth subX subY miCols miRows row col plane pass cells samples =
+-- the operation with document 01's refusals, for samples of a width
+unfoldable pub superblockLoopFilterCells : Width → WindowShape → (sharpness depth subX subY miCols miRows row col plane pass : ℕ) (cells samples : List ℕ) → Outcome (List ℕ)
+superblockLoopFilterCells w g sharpness depth subX subY miCols miRows row col plane pass cells samples =
     let t = settingOf sharpness depth subX subY miCols miRows row col plane cells in
-    numbersRefused sharpness depth subX subY miCols miRows row col plane pass (length cells)
+    numbersRefused sharpness (admits w depth) subX subY miCols miRows row col plane pass (length cells)
     (listsRefused g t (passOf pass) samples
     (accepted (superblockLoopFilter g t (passOf pass) samples)))

@@ -10,10 +10,10 @@ use borrow.Author.Tests.{ltb-true, le-ltb}
 use lib.Dec.{ltb}
 use lib.ListN.{length, getD, take}
 use lib.Seq.{length-take-le, take-all}
-use Rattle.base.specs.Depth.{supported}
 use Rattle.base.specs.First.{found, first, refuseFirst}
 use Rattle.base.specs.FirstLaws.{found-same, first-same}
 use Rattle.base.specs.Outcome.{Outcome, accepted, refuse}
+use Rattle.base.specs.Width.{Width, admits}
 use Rattle.cells.specs.Cell.{cellOf}
 use Rattle.bad_words.specs.BadWord.{badWord, badCell}
 use Rattle.decided.specs.Decided.{Position, position, Setting, setting, settingOf, superblockOf, decisionAt, isDecided, decided, filters}
@@ -111,13 +111,13 @@ short-take n l c h = go (decLt n (length l))
     go (yes k) = rw (length-take-le n l (omega (arith, k))) (le-ltb n c h ∙ sym (le-ltb (length l) c (omega (arith, k, h))))
     go (no k) = rw (take-all n l (omega (arith, k)))
 
-pub pass-front : (g : WindowShape) (sharpness depth subX subY miCols miRows row col plane pass : ℕ) (cells samples : List ℕ)
-    → superblockLoopFilterCells g sharpness depth subX subY miCols miRows row col plane pass (take 65536 cells) samples
-    ≡ superblockLoopFilterCells g sharpness depth subX subY miCols miRows row col plane pass cells samples
+pub pass-front : (w : Width) (g : WindowShape) (sharpness depth subX subY miCols miRows row col plane pass : ℕ) (cells samples : List ℕ)
+    → superblockLoopFilterCells w g sharpness depth subX subY miCols miRows row col plane pass (take 65536 cells) samples
+    ≡ superblockLoopFilterCells w g sharpness depth subX subY miCols miRows row col plane pass cells samples
 unfolding superblockLoopFilterCells
-pass-front g sharpness depth subX subY miCols miRows row col plane pass cells samples =
+pass-front w g sharpness depth subX subY miCols miRows row col plane pass cells samples =
     refuse-same (ltb 7 sharpness) 1 0 (λ t1.
-    refuse-same (not (supported depth)) 2 0 (λ t2.
+    refuse-same (not (admits w depth)) 2 0 (λ t2.
     refuse-same (badSubsampling subX subY) 3 0 (λ t3.
     refuse-same (badFrameSize miCols miRows) 4 0 (λ t4.
     refuse-same (badStart row miRows) 5 0 (λ t5.

@@ -7,10 +7,10 @@ use Prim.Native.Nat.{ℕ, _*_, _^_, _≤_}
 use native.Mathlib.Omega.{arith}
 use lib.Dec.{ltb}
 use lib.ListN.{length}
-use Rattle.base.specs.Depth.{supported}
 use Rattle.base.specs.First.{found, first-is}
 use Rattle.base.specs.Outcome.{accepted, returned}
 use Rattle.base.specs.OutcomeLaws.{result-is, refuse-place}
+use Rattle.base.specs.Width.{Width, admits}
 use Rattle.bad_words.specs.BadWord.{badCell}
 use Rattle.decided.specs.Decided.{Setting, settingOf}
 use Rattle.decisions.specs.Decision.{levelless}
@@ -25,34 +25,34 @@ use Rattle.window.specs.WindowLaws.{lent}
 use Rattle.window.specs.declared.WindowShape.{WindowShape}
 use Rattle.pass.specs.Pass.{superblockLoopFilter, superblockLoopFilterCells}
 
-module _ (g : WindowShape) (sharpness depth subX subY miCols miRows row col plane pass : ℕ) (cells samples : List ℕ) where
+module _ (w : Width) (g : WindowShape) (sharpness depth subX subY miCols miRows row col plane pass : ℕ) (cells samples : List ℕ) where
   abbrev given : Setting
   given = settingOf sharpness depth subX subY miCols miRows row col plane cells
 
   -- its tests are passed, and this is its result
   pub record Ran (result : List ℕ) : Type 0 where
-    pub numbers : Numbers sharpness depth subX subY miCols miRows row col plane pass (length cells)
+    pub numbers : Numbers sharpness (admits w depth) subX subY miCols miRows row col plane pass (length cells)
     pub lists : Lists g given (passOf pass) samples
     pub result-is : result ≡ superblockLoopFilter g given (passOf pass) samples
 
-  pub ran : (result : List ℕ) → superblockLoopFilterCells g sharpness depth subX subY miCols miRows row col plane pass cells samples ≡ accepted result → Ran result
+  pub ran : (result : List ℕ) → superblockLoopFilterCells w g sharpness depth subX subY miCols miRows row col plane pass cells samples ≡ accepted result → Ran result
   unfolding superblockLoopFilterCells
   ran result e =
-      let n = numbers-passed sharpness depth subX subY miCols miRows row col plane pass (length cells) _ e in
+      let n = numbers-passed sharpness (admits w depth) subX subY miCols miRows row col plane pass (length cells) _ e in
       let l = lists-passed g given (passOf pass) samples _ (n .1) in
       record { numbers = n .0; lists = l .0; result-is = sym (result-is (l .1)) }
 
 -- a place fits 32 bits: it is a cell of the row, a sample of the window, a position of the grid, or 0
-pub pass-place : (g : WindowShape) (sharpness depth subX subY miCols miRows row col plane pass : ℕ) (cells samples : List ℕ)
-    → returned (superblockLoopFilterCells g sharpness depth subX subY miCols miRows row col plane pass cells samples) .place ≤ 4294967295
+pub pass-place : (w : Width) (g : WindowShape) (sharpness depth subX subY miCols miRows row col plane pass : ℕ) (cells samples : List ℕ)
+    → returned (superblockLoopFilterCells w g sharpness depth subX subY miCols miRows row col plane pass cells samples) .place ≤ 4294967295
 unfolding superblockLoopFilterCells
-pass-place g sharpness depth subX subY miCols miRows row col plane pass cells samples =
+pass-place w g sharpness depth subX subY miCols miRows row col plane pass cells samples =
     let s = settingOf sharpness depth subX subY miCols miRows row col plane cells .superblock in
     let cell = badCell cells in
     let sample = badSample g (2 ^ depth) samples in
     let level = levelless s (passOf pass) (ltb 0 plane) cells in
     refuse-place 4294967295 (ltb 7 sharpness) 1 0 _ (λ e. omega arith) (λ t1.
-    refuse-place 4294967295 (not (supported depth)) 2 0 _ (λ e. omega arith) (λ t2.
+    refuse-place 4294967295 (not (admits w depth)) 2 0 _ (λ e. omega arith) (λ t2.
     refuse-place 4294967295 (badSubsampling subX subY) 3 0 _ (λ e. omega arith) (λ t3.
     refuse-place 4294967295 (badFrameSize miCols miRows) 4 0 _ (λ e. omega arith) (λ t4.
     refuse-place 4294967295 (badStart row miRows) 5 0 _ (λ e. omega arith) (λ t5.

@@ -14,7 +14,7 @@ use Rattle.geometry.specs.declared.Pass.{Pass}
 use Rattle.geometry.specs.declared.Superblock.{Superblock}
 use Rattle.pass_edges.specs.PassEdges.{edgeCount}
 use Rattle.window.specs.declared.WindowShape.{WindowShape}
-use Rattle.pass.specs.WorkLaws.{runFiltered, runsFiltered, runs-none, runs-one, runs-append, runs-select, runs-length, runs-range, Able}
+use Rattle.pass.specs.WorkLaws.{runFiltered, runsFiltered, runs-none, runs-one, runs-append, runs-select, runs-length, runs-range, Able, able-after}
 
 -- the cells l arrived while a was pending: before became after, and r is pending
 pub record Walk (g : WindowShape) (s : Superblock) (pass : Pass) (sharpness depth : ℕ) (l : List EdgeRun) (a : EdgeRun) (before after : List ℕ) (r : EdgeRun) : Type 0 where
@@ -41,13 +41,8 @@ module _ {g : WindowShape} {s : Superblock} {pass : Pass} {sharpness depth : ℕ
 
   -- the work may go on
   pub walk-able : {l : List EdgeRun} {a r : EdgeRun} {before after : List ℕ} → Walk g s pass sharpness depth l a before after r → Able g s sharpness depth before → Able g s sharpness depth after
-  walk-able {l} {a} {before = before} u able = record {
-    window = rw (walk-length u) (able .window);
-    range = rw (u .samples-are) (runs-range g s pass sharpness depth (able .window) (able .deep) (walked a l) before (able .range));
-    placed = able .placed;
-    sharp = able .sharp;
-    deep = able .deep;
-  }
+  walk-able {l} {a} {before = before} u able =
+      able-after able (walk-length u) (rw (u .samples-are) (runs-range g s pass sharpness depth (able .window) (able .deep) (walked a l) before (able .range)))
 
   -- one cell b, which the code has as next
   module _ {a b next : EdgeRun} {l : List EdgeRun} (one : b ∷ [] ≡ l) (is : next ≡ b) where

@@ -63,7 +63,7 @@ unfolding superblockLoopFilter
 pass-length g t pass samples = steps-length g t pass (decided t pass) samples
 
 -- the line filter keeps samples in range
-line-keeps : (depth size limit blimit thresh : ℕ) → supported depth ≡ true → Keeps (2 ^ depth) (sampleFiltering depth size limit blimit thresh)
+pub line-keeps : (depth size limit blimit thresh : ℕ) → supported depth ≡ true → Keeps (2 ^ depth) (sampleFiltering depth size limit blimit thresh)
 line-keeps depth size limit blimit thresh deep = record { keep = λ taps h. filters-within depth size limit blimit thresh taps deep (record { below = h }) .below }
 
 module _ (g : WindowShape) (n : ℕ) (w : Lent g n) (t : Setting) (pass : Pass) (depth : supported (t .depth) ≡ true) where
@@ -107,8 +107,13 @@ pub record Able (g : WindowShape) (s : Superblock) (sharpness depth : ℕ) (samp
 pub ready-able : (g : WindowShape) (t : Setting) (samples : List ℕ) → Ready g t samples → Able g (t .superblock) (t .sharpness) (t .depth) samples
 ready-able g t samples r = record { window = r .window; range = r .range; placed = r .placed; sharp = r .sharpness; deep = r .depth }
 
+-- the work may go on
+pub able-after : {g : WindowShape} {s : Superblock} {sharpness depth : ℕ} {before after : List ℕ} → Able g s sharpness depth before → length after ≡ length before → InRange g (2 ^ depth) after
+    → Able g s sharpness depth after
+able-after able long range = record { window = rw long (able .window); range = range; placed = able .placed; sharp = able .sharp; deep = able .deep }
+
 -- what holds of both cases of a test
-either : {A : Type 0} (P : A → Type 0) (b : Bool) {x y : A} → P x → P y → P (cond b x y)
+pub either : {A : Type 0} (P : A → Type 0) (b : Bool) {x y : A} → P x → P y → P (cond b x y)
 either P true p q = p
 either P false p q = q
 
@@ -168,6 +173,11 @@ pos-steps : (f : Position → List ℕ → List ℕ) (l : List EdgeRun) (samples
 pos-steps f [] samples = refl
 pos-steps f (a ∷ l) samples = run-append f (positionsOf a) (allPositions l) samples ∙ pos-steps f l (run f (positionsOf a) samples)
 
+-- k positions further along an edge
+pub plane-along : (s : Superblock) (pass : Pass) (edge i k : ℕ) → (planeX s pass edge (i + k) ≡ alongX pass (planeX s pass edge i) k) × (planeY s pass edge (i + k) ≡ alongY pass (planeY s pass edge i) k)
+plane-along s Vertical edge i k = plane-vertical s edge i k
+plane-along s Horizontal edge i k = plane-horizontal s edge i k
+
 -- only what is done for members counts
 run-members : (f h : EdgeRun → List ℕ → List ℕ) (l : List EdgeRun) → ((a : EdgeRun) → List·Memᴰ a l → (samples : List ℕ) → f a samples ≡ h a samples)
     → (samples : List ℕ) → run f l samples ≡ run h l samples
@@ -177,14 +187,6 @@ run-members f h (a ∷ l) e samples = run-members f h l (λ b m. e b (List·Mem�
 module _ (g : WindowShape) (t : Setting) (pass : Pass) where
   abbrev runStep : EdgeRun → List ℕ → List ℕ
   runStep a samples = run (step g t pass) (positionsOf a) samples
-
-  -- k positions further along an edge
-  along : (edge i k : ℕ) → (planeX (t .superblock) pass edge (i + k) ≡ alongX pass (planeX (t .superblock) pass edge i) k) × (planeY (t .superblock) pass edge (i + k) ≡ alongY pass (planeY (t .superblock) pass edge i) k)
-  along edge i k = by pass
-    where
-      by : (pass : Pass) → (planeX (t .superblock) pass edge (i + k) ≡ alongX pass (planeX (t .superblock) pass edge i) k) × (planeY (t .superblock) pass edge (i + k) ≡ alongY pass (planeY (t .superblock) pass edge i) k)
-      by Vertical = plane-vertical (t .superblock) edge i k
-      by Horizontal = plane-horizontal (t .superblock) edge i k
 
   -- the line filter of a size and a level
   abbrev lineBy : (size level : ℕ) → List ℕ → List ℕ
@@ -212,7 +214,7 @@ module _ (g : WindowShape) (t : Setting) (pass : Pass) where
         let d = decisionAt t pass (position (a .edge) (a .first + k)) in
         let same = runs-alike t pass a m (position (a .edge) (a .first + k)) (mem-strip position (a .edge) (a .first) (a .count) (a .first + k) (omega arith) (omega arith)) in
         let on : filters d ≡ true = rw (same .level) (lt-ltb 0 (a .level) level) in
-        let p = along (a .edge) (a .first) k in
+        let p = plane-along (t .superblock) pass (a .edge) (a .first) k in
         λ i. applied (stencil g pass (sym (p .0) i) (sym (p .1) i) (sym on i) (lineBy (sym (same .size) i) (sym (same .level) i))) samples
 
     in-turn-steps : (samples : List ℕ) → inTurn family (a .count) samples ≡ runStep a samples

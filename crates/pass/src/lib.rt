@@ -6,6 +6,7 @@ ghost use lib.ListN.{length};
 ghost use Rattle.base.specs.Depth.{supported};
 ghost use Rattle.base.specs.First.{refuseFirst};
 ghost use Rattle.base.specs.Outcome.{accepted, Answers};
+ghost use Rattle.base.specs.Width.{U16};
 ghost use Rattle.positions.specs.Positions.{Placed};
 ghost use Rattle.geometry.specs.Frame.{cellsFrom};
 ghost use Rattle.decided.specs.Decided.{setting};
@@ -17,6 +18,7 @@ ghost use Rattle.pass.specs.WorkLaws.{Ready};
 
 mod edge;
 
+use base::is_supported;
 use decided::superblock_of;
 use decisions::first_levelless_unchecked;
 use edge::filter_keys;
@@ -110,11 +112,11 @@ pub fn superblock_loop_filter_cells(
     plane: u8,
     pass: u8,
 ) -> PassAnswer
-    ensures { λ r. ⌜ Answers (superblockLoopFilterCells g sharpness depth «sub_x» «sub_y» «mi_cols» «mi_rows» row col plane pass (now (cells .entry)) (now (samples .entry))) (returnedOf r) (now (samples .entry)) (now (samples .exit)) ⌝ }
+    ensures { λ r. ⌜ Answers (superblockLoopFilterCells U16 g sharpness depth «sub_x» «sub_y» «mi_cols» «mi_rows» row col plane pass (now (cells .entry)) (now (samples .entry))) (returnedOf r) (now (samples .entry)) (now (samples .exit)) ⌝ }
 {
     let faults = number_faults(
         sharpness,
-        depth,
+        is_supported(depth),
         sub_x,
         sub_y,
         mi_cols,

@@ -14,6 +14,7 @@ use lib.Seq.{set-out, take-all, take-append-le}
 use Rattle.base.specs.Filled.{filled, table, length-filled, take-filled}
 use Rattle.cell_records.specs.CellRecord.{wordsOf}
 use Rattle.cell_records.specs.declared.CellRecord.{CellRecord}
+use Rattle.base.specs.Width.{U16}
 use Rattle.pass.specs.PassFront.{pass-front}
 use Rattle.plane_window.specs.PlaneWindow.{passOver}
 use Rattle.plane_window.specs.declared.numbers.PassNumbers.{PassNumbers}
@@ -69,4 +70,4 @@ pub pass-stored : (g : WindowShape) (p : PassNumbers) (records : List CellRecord
     → passOver g p (take (length records) (filled (recordWord records) 0 (length records) l)) samples ≡ passRecords g p records samples
 pass-stored g p records l samples e =
     ap (λ (words : List ℕ). passOver g p words samples) (words-stored records l e)
-    ∙ pass-front g (p .sharpness) (p .«bit_depth») (p .«sub_x») (p .«sub_y») (p .«mi_cols») (p .«mi_rows») (p .«mi_row») (p .«mi_col») (p .plane) (p .pass) (wordsOf records) samples
+    ∙ pass-front U16 g (p .sharpness) (p .«bit_depth») (p .«sub_x») (p .«sub_y») (p .«mi_cols») (p .«mi_rows») (p .«mi_row») (p .«mi_col») (p .plane) (p .pass) (wordsOf records) samples

@@ -4,14 +4,14 @@ use mathlib.Core.Path.{_≡_, refl, ap, _∙_}
 use mathlib.Core.Logic.{_⊎_, inl, inr}
 use mathlib.Core.Bool.{Bool, true}
 use mathlib.Core.List.{List}
-use Prim.Native.Nat.{ℕ, _+_, _*_, _≤_, _<_}
+use Prim.Native.Nat.{ℕ, _+_, _≤_}
 use native.Mathlib.Nat.{zero-add}
 use native.Mathlib.Omega.{arith}
 use lib.ListN.{length, getD, set}
 use Rattle.base.specs.Filled.{filled, filled-more, filled-at, length-filled}
 use Rattle.geometry.specs.declared.Pass.{Pass}
 use Rattle.geometry.specs.declared.Pass.the-variants.{Vertical, Horizontal}
-use Rattle.lane_runs.specs.Spread.{Spaced, LaneRun}
+use Rattle.lane_runs.specs.Spread.{Spaced, SpacedRun, LaneRun}
 use Rattle.lane_runs.specs.SpreadLaws.{spaced-across, spaced-down}
 use Rattle.window.specs.InsideRun.{insideRun, InsideRun, inside-run, firstTap, tapStep, alongStep, run-tap}
 use Rattle.window.specs.RangeLaws.{InRange}
@@ -39,12 +39,18 @@ spaced g Vertical at x y n w h = spaced-across at (g .stride) n (omega arith)
 spaced g Horizontal at x y n w h = spaced-down at (g .stride) n (omega arith)
 
 -- a run inside the window can be filtered in lanes
-pub inside-lanes : (g : WindowShape) (pass : Pass) (x y n : ℕ) (samples : List ℕ) → Lent g (length samples) → insideRun g pass x y n ≡ true → n ≤ 16 → InRange g 4096 samples
-    → LaneRun (firstTap g pass x y) (tapStep g pass) (alongStep g pass) n samples
-inside-lanes g pass x y n samples w e few r = record {
+pub inside-spaced : (g : WindowShape) (pass : Pass) (x y n : ℕ) (samples : List ℕ) → Lent g (length samples) → insideRun g pass x y n ≡ true → n ≤ 16
+    → SpacedRun (firstTap g pass x y) (tapStep g pass) (alongStep g pass) n samples
+inside-spaced g pass x y n samples w e few = record {
   few = few;
   spaced = spaced g pass (firstTap g pass x y) x y n (w .rows) (inside-run g pass x y n e);
   lent = λ l k h m. let t = run-tap g pass x y n l k e h m in rw (t .is) (place-lent g (length samples) (t .x′) (t .y′) w (t .inside));
+}
+
+pub inside-lanes : (g : WindowShape) (pass : Pass) (x y n : ℕ) (samples : List ℕ) → Lent g (length samples) → insideRun g pass x y n ≡ true → n ≤ 16 → InRange g 4096 samples
+    → LaneRun (firstTap g pass x y) (tapStep g pass) (alongStep g pass) n samples
+inside-lanes g pass x y n samples w e few r = record {
+  run = inside-spaced g pass x y n samples w e few;
   small = λ l k h m. let t = run-tap g pass x y n l k e h m in rw (t .is) (r .below (t .x′) (t .y′) (t .inside));
 }
 

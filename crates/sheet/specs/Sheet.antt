@@ -13,6 +13,7 @@ use Rattle.decided.specs.Runs.{runs}
 use Rattle.decided.specs.declared.EdgeRun.{EdgeRun}
 use Rattle.decisions.specs.Decision.{levelless}
 use Rattle.geometry.specs.Frame.{cellsFrom}
+use Rattle.base.specs.Depth.{supported}
 use Rattle.faults.specs.Faults.{numbersRefused}
 use Rattle.pass_edges.specs.PassEdges.{passOf, edgeCount}
 use Rattle.sheet_lines.specs.SheetLines.{firstLine, runLines, refusalLine}
@@ -45,7 +46,7 @@ sheetRuns bytes =
     let h = headerOf bytes in
     refuse (ltb (length bytes) 8) 7 0
     (refuse (badHeader h) 17 0
-    (numbersRefused (h .sharpness) (h .depth) (h .subx) (h .suby) (h .cols) (h .rows) (h .row) (h .col) (h .plane) (h .pass) ((length bytes - 8) / 4)
+    (numbersRefused (h .sharpness) (supported (h .depth)) (h .subx) (h .suby) (h .cols) (h .rows) (h .row) (h .col) (h .plane) (h .pass) ((length bytes - 8) / 4)
     (cellsRuns h (cellsOf bytes))))
 
 -- ---- its text

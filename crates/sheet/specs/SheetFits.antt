@@ -49,11 +49,11 @@ refuse-tame false number place after p q = q refl
 no-place : (test : Bool) (number : ℕ) (after : Outcome (List EdgeRun)) → number < 100 → (test ≡ false → Tame after) → Tame (refuse test number 0 after)
 no-place test number after h q = refuse-tame test number 0 after (λ e. (h, omega arith)) q
 
-numbers-tame : (sharpness depth subX subY miCols miRows row col plane pass cellsLent : ℕ) (after : Outcome (List EdgeRun)) → Tame after
-    → Tame (numbersRefused sharpness depth subX subY miCols miRows row col plane pass cellsLent after)
-numbers-tame sharpness depth subX subY miCols miRows row col plane pass cellsLent after tame =
+numbers-tame : (sharpness : ℕ) (known : Bool) (subX subY miCols miRows row col plane pass cellsLent : ℕ) (after : Outcome (List EdgeRun)) → Tame after
+    → Tame (numbersRefused sharpness known subX subY miCols miRows row col plane pass cellsLent after)
+numbers-tame sharpness known subX subY miCols miRows row col plane pass cellsLent after tame =
     no-place (ltb 7 sharpness) 1 _ (omega arith) (λ t1.
-    no-place (not (supported depth)) 2 _ (omega arith) (λ t2.
+    no-place (not known) 2 _ (omega arith) (λ t2.
     no-place (badSubsampling subX subY) 3 _ (omega arith) (λ t3.
     no-place (badFrameSize miCols miRows) 4 _ (omega arith) (λ t4.
     no-place (badStart row miRows) 5 _ (omega arith) (λ t5.
@@ -83,7 +83,7 @@ sheet-tame bytes =
     let h = headerOf bytes in
     no-place (ltb (length bytes) 8) 7 _ (omega arith) (λ t7.
     no-place (badHeader h) 17 _ (omega arith) (λ t17.
-    numbers-tame (h .sharpness) (h .depth) (h .subx) (h .suby) (h .cols) (h .rows) (h .row) (h .col) (h .plane) (h .pass) ((length bytes - 8) / 4) _
+    numbers-tame (h .sharpness) (supported (h .depth)) (h .subx) (h .suby) (h .cols) (h .rows) (h .row) (h .col) (h .plane) (h .pass) ((length bytes - 8) / 4) _
     (cells-tame h (cellsOf bytes) (header-narrow h t17))))
 
 pub sheet-fits : (bytes : List ℕ) → length (runSheet bytes) ≤ 2048

@@ -14,6 +14,7 @@ use Rattle.decided.specs.Runs.{runs}
 use Rattle.decided.specs.declared.EdgeRun.{EdgeRun}
 use Rattle.decisions.specs.Decision.{levelless}
 use Rattle.geometry.specs.Frame.{cellsFrom}
+use Rattle.base.specs.Depth.{supported}
 use Rattle.faults.specs.Faults.{numbersRefused}
 use Rattle.pass_edges.specs.PassEdges.{passOf, edgeCount}
 use Rattle.text.specs.Text.{Put}
@@ -32,7 +33,7 @@ module _ (bytes : List ℕ) where
     sheet-spare l bad = rw (le-ltb (length bytes) 8 l, ← is, bad)
 
     pub sheet-rest : 8 ≤ length bytes → badHeader h ≡ false → sheetRuns bytes
-        ≡ numbersRefused (h .sharpness) (h .depth) (h .subx) (h .suby) (h .cols) (h .rows) (h .row) (h .col) (h .plane) (h .pass) ((length bytes - 8) / 4) (cellsRuns h (cellsOf bytes))
+        ≡ numbersRefused (h .sharpness) (supported (h .depth)) (h .subx) (h .suby) (h .cols) (h .rows) (h .row) (h .col) (h .plane) (h .pass) ((length bytes - 8) / 4) (cellsRuns h (cellsOf bytes))
     unfolding sheetRuns
     sheet-rest l good = rw (le-ltb (length bytes) 8 l, ← is, good)
 

@@ -15,6 +15,7 @@ mod runs;
 
 use bad_words::any_bad_word_unchecked;
 use bad_words::first_bad_word_unchecked;
+use base::is_supported;
 use decided::superblock_of;
 use decisions::first_levelless_unchecked;
 use faults::PassAnswer;
@@ -84,7 +85,7 @@ fn print_sheet(out: &mut [u8], sheet: &[u8]) -> usize
     }
     let faults = number_faults(
         h.sharpness,
-        h.depth,
+        is_supported(h.depth),
         h.subx,
         h.suby,
         h.cols,

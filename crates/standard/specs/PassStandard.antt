@@ -29,6 +29,7 @@ use Rattle.line.specs.SampleFilteringLaws.{reads}
 use Rattle.order.specs.Grid.{grid, grid-mem, select, select-mem, select-passes, select-same, strip, strips-split}
 use Rattle.order.specs.Order.{run}
 use Rattle.order.specs.Walk.{run-append, run-strip-next, run-beside}
+use Rattle.base.specs.Width.{Width}
 use Rattle.pass.specs.Pass.{lineOf, step, superblockLoopFilter, superblockLoopFilterCells}
 use Rattle.pass.specs.PassLaws.{ran}
 use Rattle.pass_edges.specs.PassEdges.{passOf, edgeCount, edgeLen}
@@ -281,14 +282,14 @@ same-superblock f (suc (suc zero)) row col h = refl
 same-superblock f (suc (suc (suc plane))) row col h = absurd (omega arith)
 
 -- For a frame whose mode info the lists hold and a level table that has the standard's entries: where the row makes words of the
--- lists, and the pass over those words is accepted, it is the standard's.
-pub pass-standard : (f : Std.Frame) (table : (segment ref mode : ℕ) → ℕ) (m : ModeInfo) (levels : List ℕ) (g : WindowShape) (row col plane pass : ℕ) (cells words samples result : List ℕ)
+-- lists, and the pass over those words is accepted, at either width of samples, it is the standard's.
+pub pass-standard : (width : Width) (f : Std.Frame) (table : (segment ref mode : ℕ) → ℕ) (m : ModeInfo) (levels : List ℕ) (g : WindowShape) (row col plane pass : ℕ) (cells words samples result : List ℕ)
     → Holds f row m → Entries f row levels table
     → rowOf m levels (f .sharpness) (f .bitDepth) (f .subsamplingX) (f .subsamplingY) (f .miCols) (f .miRows) row cells ≡ accepted words
-    → superblockLoopFilterCells g (f .sharpness) (f .bitDepth) (f .subsamplingX) (f .subsamplingY) (f .miCols) (f .miRows) row col plane pass words samples ≡ accepted result
+    → superblockLoopFilterCells width g (f .sharpness) (f .bitDepth) (f .subsamplingX) (f .subsamplingY) (f .miCols) (f .miRows) row col plane pass words samples ≡ accepted result
     → StandardPass f table plane pass row col g (settingOf (f .sharpness) (f .bitDepth) (f .subsamplingX) (f .subsamplingY) (f .miCols) (f .miRows) row col plane words) (passOf pass) samples result
-pass-standard f table m levels g row col plane pass cells words samples result holds entries made e =
-    let r = ran g (f .sharpness) (f .bitDepth) (f .subsamplingX) (f .subsamplingY) (f .miCols) (f .miRows) row col plane pass words samples result e in
+pass-standard width f table m levels g row col plane pass cells words samples result holds entries made e =
+    let r = ran width g (f .sharpness) (f .bitDepth) (f .subsamplingX) (f .subsamplingY) (f .miCols) (f .miRows) row col plane pass words samples result e in
     let flags = r .numbers .flags in
     let w = row-made m levels (f .sharpness) (f .bitDepth) (f .subsamplingX) (f .subsamplingY) (f .miCols) (f .miRows) row cells words made in
     subst (λ (n : ℕ). StandardPass f table plane n row col g (over (superblockOf (f .subsamplingX) (f .subsamplingY) (f .miCols) (f .miRows) row col plane)) (passOf pass) samples result)

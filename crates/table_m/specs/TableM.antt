@@ -13,6 +13,7 @@ use Rattle.base.specs.Notation.{Clip3}
 use Rattle.base.specs.Outcome.{Outcome, accepted, refused, held}
 use Rattle.frame_header.specs.Params.{segFeatureActive, featureAt, resolvedDelta, resolvedFrom, absent}
 use Rattle.levels.specs.Levels.{clippedLevel, lvlSeg, intraLvl, interLvl, entryLvl, segmentLvl, placeLvl, frameInit, levelTable}
+use Rattle.base.specs.Width.{U16}
 use Rattle.line.specs.Line.{line}
 use Rattle.line.specs.Masks.{hevMask, filterMask, flatAt, flatMask, flatMask2}
 use Rattle.line.specs.NarrowFilter.{c, sample, narrowFilter}
@@ -62,7 +63,7 @@ filtered : ℕ → ℕ → ℕ → ℕ → List ℕ → List ℕ
 filtered depth size k n t = numbers (strengthFor 32 0)
   where
     numbers : Outcome FilterStrength → List ℕ
-    numbers (accepted s) = take n (drop k (held (line depth size (s .limit) (s .blimit) (s .thresh) t) []))
+    numbers (accepted s) = take n (drop k (held (line U16 depth size (s .limit) (s .blimit) (s .thresh) t) []))
     numbers (refused number place) = []
 
 -- M1 to M5 are strengths, M6 and M7 level tables, M8 to M12 lines

@@ -37,6 +37,7 @@ fn is_answer(record: &Record, answer: LineAnswer) -> bool {
     match answer {
         LineAnswer::Done => is_refusal(record, 0, 0),
         LineAnswer::Depth => is_refusal(record, 2, 0),
+        LineAnswer::Short => is_refusal(record, 7, 0),
         LineAnswer::Sample(place) => is_refusal(record, 13, place),
         LineAnswer::Size => is_refusal(record, 15, 0),
     }

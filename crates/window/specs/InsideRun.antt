@@ -1,19 +1,20 @@
 -- Runs whose taps are all in the window: they need no clamps and no tests.
 -- Assumes nothing.
-use mathlib.Core.Path.{_≡_, refl, sym, ap, _∙_}
-use mathlib.Core.Bool.{Bool, true, _&&_}
+use mathlib.Core.Path.{_≡_, refl, sym, ap, _∙_, subst}
+use mathlib.Core.Bool.{Bool, true, false, _&&_}
 use mathlib.Core.List.{List}
-use Prim.Native.Nat.{ℕ, zero, suc, _+_, _-_, _*_, _≤_, _<_}
+use Prim.Native.Nat.{ℕ, _+_, _-_, _*_, _≤_, _<_}
 use native.Mathlib.Nat.{add-mul}
 use native.Mathlib.Omega.{arith}
-use lib.Dec.{leb}
+use lib.Dec.{T, leb}
 use borrow.Author.Tests.{leb-true}
 use Rattle.base.specs.Tests.{both}
 use Rattle.geometry.specs.declared.Pass.{Pass}
 use Rattle.geometry.specs.declared.Pass.the-variants.{Vertical, Horizontal}
+use Rattle.window.specs.Reach.{stencil-idle}
 use Rattle.window.specs.Stencil.{Stencil, applied, inTurn}
-use Rattle.window.specs.StencilLaws.{applied-same}
-use Rattle.window.specs.Window.{place, clamp, tapRead, tapStored, tapWritten, alongX, alongY, runOf}
+use Rattle.window.specs.StencilLaws.{applied-same, applied-kept, in-turn-same}
+use Rattle.window.specs.Window.{place, clamp, tapRead, tapStored, tapWritten, stencil, alongX, alongY, linesOf, runOf}
 use Rattle.window.specs.WindowLaws.{Inside, among-yes}
 use Rattle.window.specs.declared.WindowShape.{WindowShape}
 
@@ -39,8 +40,12 @@ alongStep g Horizontal = 1
 abbrev pub plain : (at step : ℕ) → (List ℕ → List ℕ) → Stencil
 plain at step line = record { reads = λ k. at + k * step; stored = λ k. true; writes = λ k. at + k * step; line = line }
 
+-- positions that stand `along` apart, each by a line filter of its own, and by one
+abbrev pub plainLines : (at step along : ℕ) → (lines : ℕ → List ℕ → List ℕ) → (k : ℕ) → Stencil
+plainLines at step along lines k = plain (at + k * along) step (lines k)
+
 abbrev pub plainRun : (at step along : ℕ) → (List ℕ → List ℕ) → (k : ℕ) → Stencil
-plainRun at step along line k = plain (at + k * along) step line
+plainRun at step along line k = plainLines at step along (λ _. line) k
 
 abbrev pub InsideRun : WindowShape → Pass → (x y n : ℕ) → Type 0
 InsideRun g Vertical x y n = (8 ≤ x) × (x + 8 ≤ g .width) × (g .top ≤ y) × (y + n ≤ g .top + g .height)
@@ -95,18 +100,25 @@ module _ (g : WindowShape) (x y n k j : ℕ) (l : k < n) (m : j < 16) where
   run-stored Vertical h = rw (among-yes 8 (g .width) (x + j) (omega arith) (omega arith), among-yes (8 + g .top) (g .height) (y + k + 8) (omega arith) (omega arith))
   run-stored Horizontal h = rw (among-yes 8 (g .width) (x + k + 8) (omega arith) (omega arith), among-yes (8 + g .top) (g .height) (y + j) (omega arith) (omega arith))
 
-in-turn-same : (f f′ : ℕ → Stencil) (n : ℕ) (w : List ℕ) → ((k : ℕ) → k < n → (u : List ℕ) → applied (f k) u ≡ applied (f′ k) u) → inTurn f n w ≡ inTurn f′ n w
-unfolding inTurn
-in-turn-same f f′ zero w h = refl
-in-turn-same f f′ (suc n) w h = h n (omega arith) (inTurn f n w) ∙ ap (applied (f′ n)) (in-turn-same f f′ n w (λ k l. h k (omega arith)))
+-- so positions inside the window need no clamps and no tests: one that does not filter may store what it read
+pub lines-plain : (g : WindowShape) (pass : Pass) (x y n : ℕ) (on : ℕ → Bool) (lines : ℕ → List ℕ → List ℕ) (w : List ℕ)
+    → ((k : ℕ) → on k ≡ false → (t : List ℕ) → lines k t ≡ t) → insideRun g pass x y n ≡ true
+    → inTurn (plainLines (firstTap g pass x y) (tapStep g pass) (alongStep g pass) lines) n w ≡ inTurn (linesOf g pass x y on lines) n w
+lines-plain g pass x y n on lines w off e =
+    in-turn-same _ (linesOf g pass x y on lines) n w (λ k l u. one k l u (on k) (off k))
+  where
+    one : (k : ℕ) → k < n → (u : List ℕ) (b : Bool) → (b ≡ false → (t : List ℕ) → lines k t ≡ t)
+        → applied (plainLines (firstTap g pass x y) (tapStep g pass) (alongStep g pass) lines k) u ≡ applied (stencil g pass (alongX pass x k) (alongY pass y k) b (lines k)) u
+    one k l u true keep =
+        let h = inside-run g pass x y n e in
+        applied-same _ (stencil g pass (alongX pass x k) (alongY pass y k) true (lines k)) u refl
+        (λ j m. sym (run-read g x y n k j l m pass h)) (λ j m. sym (run-stored g x y n k j l m pass h)) (λ j m. sym (run-written g x y n k j l m pass h))
+    one k l u false keep =
+        applied-kept _ u (λ j m. refl) (keep refl) ∙ sym (stencil-idle g pass (alongX pass x k) (alongY pass y k) false (lines k) u refl)
 
--- so the run needs no clamps and no tests
 pub run-plain : (g : WindowShape) (pass : Pass) (x y n : ℕ) (line : List ℕ → List ℕ) (w : List ℕ) → insideRun g pass x y n ≡ true
     → inTurn (plainRun (firstTap g pass x y) (tapStep g pass) (alongStep g pass) line) n w ≡ inTurn (runOf g pass x y line) n w
-run-plain g pass x y n line w e =
-    let h = inside-run g pass x y n e in
-    in-turn-same _ _ n w (λ k l u. applied-same _ (runOf g pass x y line k) u refl
-    (λ j m. sym (run-read g x y n k j l m pass h)) (λ j m. sym (run-stored g x y n k j l m pass h)) (λ j m. sym (run-written g x y n k j l m pass h)))
+run-plain g pass x y n line w e = lines-plain g pass x y n (λ _. true) (λ _. line) w (λ k d t. absurd (subst T d tt)) e
 
 -- tap j of position k is a sample of the window
 pub record RunTap (g : WindowShape) (pass : Pass) (x y k j : ℕ) : Type 0 where

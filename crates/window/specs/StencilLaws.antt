@@ -9,7 +9,7 @@ use native.Mathlib.Nat.{add-zero, add-suc, suc-add, zero-add, eq-or-lt-of-le, le
 use native.Mathlib.Numerals.{add-one}
 use native.Mathlib.Omega.{arith}
 use lib.ListN.{length, getD, set, length-set}
-use lib.Seq.{getD-set-same, getD-set-other, set-comm, ext-getD}
+use lib.Seq.{getD-set-same, getD-set-other, set-getD, set-comm, ext-getD}
 use Rattle.base.specs.First.{found, found-false}
 use Rattle.window.specs.Stencil.{Stencil, gather, taps, put, scatter, applied, inTurn}
 
@@ -31,6 +31,10 @@ put-put true true i j x y w h = set-comm w j i y x (λ e. h refl refl (sym e))
 put-put true false i j x y w h = refl
 put-put false true i j x y w h = refl
 put-put false false i j x y w h = refl
+
+put-kept : (b : Bool) (i v : ℕ) (w : List ℕ) → v ≡ getD w i 0 → put b i v w ≡ w
+put-kept true i v w e = rw e (set-getD w i 0)
+put-kept false i v w e = refl
 
 pub put-on : (b : Bool) (i j v : ℕ) (w : List ℕ) → b ≡ true → i ≡ j → set w i v ≡ put b j v w
 put-on b i j v w e h = rw (e, h)
@@ -76,6 +80,13 @@ module _ (stored : ℕ → Bool) (writes sample : ℕ → ℕ) where
   unfolding scatter
   scatter-idle zero w h = refl
   scatter-idle (suc n) w h = rw (h n (omega arith)) (scatter-idle n w (λ k l. h k (omega arith)))
+
+  -- samples that are there already
+  scatter-kept : (n : ℕ) (w : List ℕ) → ((k : ℕ) → k < n → sample k ≡ getD w (writes k) 0) → scatter stored writes sample n w ≡ w
+  unfolding scatter
+  scatter-kept zero w h = refl
+  scatter-kept (suc n) w h =
+      ap (put (stored n) (writes n) (sample n)) (scatter-kept n w (λ k l. h k (omega arith))) ∙ put-kept (stored n) (writes n) (sample n) w (h n (omega arith))
 
   scatter-put : (n : ℕ) (b : Bool) (j y : ℕ) (w : List ℕ) → ((k : ℕ) → k < n → stored k ≡ true → b ≡ true → writes k ≢ j)
       → scatter stored writes sample n (put b j y w) ≡ put b j y (scatter stored writes sample n w)
@@ -159,6 +170,12 @@ pub applied-idle : (a : Stencil) (w : List ℕ) → live a ≡ false → applied
 unfolding applied
 applied-idle a w e = scatter-idle (a .stored) (a .writes) (λ k. getD (a .line (taps a w)) k 0) 16 w (found-false (a .stored) 16 e)
 
+-- a line filter that leaves the line, where each tap is stored to the place that it is read from
+pub applied-kept : (a : Stencil) (w : List ℕ) → ((k : ℕ) → k < 16 → a .writes k ≡ a .reads k) → ((t : List ℕ) → a .line t ≡ t) → applied a w ≡ w
+unfolding applied
+applied-kept a w h e =
+    scatter-kept (a .stored) (a .writes) (λ k. getD (a .line (taps a w)) k 0) 16 w (λ k l. rw (e (taps a w), gather-at (a .reads) 0 16 w k l, zero-add k, h k l))
+
 -- stencils that agree at the 16 taps
 pub applied-same : (a b : Stencil) (w : List ℕ) → a .line ≡ b .line → ((k : ℕ) → k < 16 → a .reads k ≡ b .reads k) → ((k : ℕ) → k < 16 → a .stored k ≡ b .stored k)
     → ((k : ℕ) → k < 16 → a .writes k ≡ b .writes k) → applied a w ≡ applied b w
@@ -203,3 +220,21 @@ pub in-turn-length : (family : ℕ → Stencil) (n : ℕ) (w : List ℕ) → len
 unfolding inTurn
 in-turn-length family zero w = refl
 in-turn-length family (suc n) w = applied-length (family n) (inTurn family n w) ∙ in-turn-length family n w
+
+-- n of them after the first m
+pub in-turn-split : (family : ℕ → Stencil) (m n : ℕ) (w : List ℕ) → inTurn family (m + n) w ≡ inTurn (λ k. family (m + k)) n (inTurn family m w)
+unfolding inTurn
+in-turn-split family m zero w = rw add-zero
+in-turn-split family m (suc n) w = rw add-suc (ap (applied (family (m + n))) (in-turn-split family m n w))
+
+-- families that do the same
+pub in-turn-same : (f f′ : ℕ → Stencil) (n : ℕ) (w : List ℕ) → ((k : ℕ) → k < n → (u : List ℕ) → applied (f k) u ≡ applied (f′ k) u) → inTurn f n w ≡ inTurn f′ n w
+unfolding inTurn
+in-turn-same f f′ zero w h = refl
+in-turn-same f f′ (suc n) w h = h n (omega arith) (inTurn f n w) ∙ ap (applied (f′ n)) (in-turn-same f f′ n w (λ k l. h k (omega arith)))
+
+-- or nothing
+pub in-turn-idle : (family : ℕ → Stencil) (n : ℕ) (w : List ℕ) → ((k : ℕ) → k < n → (u : List ℕ) → applied (family k) u ≡ u) → inTurn family n w ≡ w
+unfolding inTurn
+in-turn-idle family zero w h = refl
+in-turn-idle family (suc n) w h = h n (omega arith) (inTurn family n w) ∙ in-turn-idle family n w (λ k l. h k (omega arith))

@@ -72,6 +72,10 @@ abbrev pub alongY : Pass → (y k : ℕ) → ℕ
 alongY Vertical y k = y + k
 alongY Horizontal y k = y
 
+-- positions along an edge from (x, y) on, each by a line filter of its own
+abbrev pub linesOf : WindowShape → Pass → (x y : ℕ) (on : ℕ → Bool) → (lines : ℕ → List ℕ → List ℕ) → (k : ℕ) → Stencil
+linesOf g pass x y on lines k = stencil g pass (alongX pass x k) (alongY pass y k) (on k) (lines k)
+
 -- the positions of a run, by one line filter
 abbrev pub runOf : WindowShape → Pass → (x y : ℕ) → (List ℕ → List ℕ) → (k : ℕ) → Stencil
-runOf g pass x y line k = stencil g pass (alongX pass x k) (alongY pass y k) true line
+runOf g pass x y line k = linesOf g pass x y (λ _. true) (λ _. line) k

@@ -24,10 +24,13 @@ returns-2 : tie.Need-returns-2
 returns-2 c = found (c .enum-told2 .given .1)
 
 returns-3 : tie.Need-returns-3
-returns-3 c = found (c .before .answer .given .1)
+returns-3 c = found (c .enum-told3 .given .1)
 
 returns-4 : tie.Need-returns-4
-returns-4 c = found (c .enum-told3 .given .1)
+returns-4 c = found (c .before .answer .given .1)
+
+returns-5 : tie.Need-returns-5
+returns-5 c = found (c .enum-told4 .given .1)
 
 pub refusal-of-spec : {M : Type 1} → statement M
 refusal-of-spec =
@@ -36,9 +39,11 @@ refusal-of-spec =
     (search needs)
     (search needs)
     (search needs)
+    (search needs)
     cast-place
     (search needs)
     returns
     returns-2
     returns-3
-    returns-4)
+    returns-4
+    returns-5)

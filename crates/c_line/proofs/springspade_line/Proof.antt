@@ -1,6 +1,7 @@
 use borrow.Author.Needs.{needs}
 use mathlib.Core.Path.{_∙_}
 use denote.Ref.{now}
+use Rattle.base.specs.Width.{U16}
 use Rattle.line.specs.LineLaws.{line-place}
 use Rattle.c_line.proofs.springspade_line.Statement.{statement}
 use Rattle.c_line.proofs.springspade_line.Tie as tie
@@ -8,7 +9,7 @@ use Rattle.c_line.proofs.springspade_line.Tie as tie
 refusal-of-requires : tie.Need-refusal-of-requires
 refusal-of-requires c κs =
     let a = c .before .before .args in
-    rw (c .sample-filtering .ensures .0) (line-place (a .bit-depth) (a .filter-size) (a .limit) (a .blimit) (a .thresh) (now (a .taps)))
+    rw (c .sample-filtering .ensures .0) (line-place U16 (a .bit-depth) (a .filter-size) (a .limit) (a .blimit) (a .thresh) (now (a .taps)))
 
 returns : tie.Need-returns
 returns c =

@@ -20,8 +20,7 @@ abbrev μ-loop : tie.MeasureT-loop
 
 loop-holds : tie.Need-loop-holds Inv-loop μ-loop
 loop-holds c =
-    let a = c .args in
-    (omega arith, c .pre .1 .long, lanes-none (sampleFiltering (a .depth) 1 (a .limit) (a .blimit) (a .thresh)) (now (a .t)))
+    (omega arith, c .pre .1 .long, lanes-none (now (c .args .t)))
 
 lane-at-requires : tie.Need-lane-at-requires Inv-loop μ-loop
 lane-at-requires c κs = omega (arith, c .before .loop-test .taken, c .before .before .before .pre .2)

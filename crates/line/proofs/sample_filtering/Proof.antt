@@ -7,6 +7,7 @@ use denote.Ref.{now}
 use borrow.Author.Tests.{not-true, not-false}
 use Rattle.base.specs.Depth.{supported, scaled, depth-scaled}
 use Rattle.base.specs.First.{first, found}
+use Rattle.base.specs.Width.{U16}
 use Rattle.line.specs.Line.{reaches}
 use Rattle.line.specs.LineLaws.{line-depth, line-sample, line-size, line-filtered}
 use Rattle.line.proofs.sample_filtering.Statement.{statement}
@@ -31,7 +32,7 @@ returns : tie.Need-returns
 returns c =
     let a = c .before .before .args in
     let d : supported (a .depth) ≡ false = sym (c .before .is-supported .ensures) ∙ not-true (c .before .is-supported .result) (c .if1 .taken) in
-    rw (line-depth (a .depth) (a .size) (a .limit) (a .blimit) (a .thresh) (now (a .t)) d) (refl, refl)
+    rw (line-depth U16 (a .depth) (a .size) (a .limit) (a .blimit) (a .thresh) (now (a .t)) d) (refl, refl)
 
 returns-2 : tie.Need-returns-2
 returns-2 c =
@@ -40,14 +41,14 @@ returns-2 c =
     let a = at-scaled .before .before .before .args in
     let e = bound at-scaled in
     let s : found (reaches (2 ^ a .depth) (now (a .t))) 16 ≡ true = rw (any .any-reaches .ensures, e) at (c .before .before .if2 .taken) in
-    rw (line-sample (a .depth) (a .size) (a .limit) (a .blimit) (a .thresh) (now (a .t)) (known (at-scaled .before)) s, c .first-reaching .ensures, e)
+    rw (line-sample U16 (a .depth) (a .size) (a .limit) (a .blimit) (a .thresh) (now (a .t)) (known (at-scaled .before)) s, c .first-reaching .ensures, e)
     (refl, refl)
 
 returns-3 : tie.Need-returns-3
 returns-3 c =
     let at-if1 = c .before .before .before .before .before in
     let a = at-if1 .before .before .args in
-    rw (line-size (a .depth) (a .size) (a .limit) (a .blimit) (a .thresh) (now (a .t)) (known at-if1) (in-range (c .before)) (c .if3 .taken))
+    rw (line-size U16 (a .depth) (a .size) (a .limit) (a .blimit) (a .thresh) (now (a .t)) (known at-if1) (in-range (c .before)) (c .if3 .taken))
     (refl, refl)
 
 returns-4 : tie.Need-returns-4
@@ -55,7 +56,7 @@ returns-4 c =
     let at-if2 = c .before .before .before in
     let at-if1 = at-if2 .before .before .before .before in
     let a = at-if1 .before .before .args in
-    rw (line-filtered (a .depth) (a .size) (a .limit) (a .blimit) (a .thresh) (now (a .t)) (known at-if1) (in-range at-if2) (c .before .before .if3 .left))
+    rw (line-filtered U16 (a .depth) (a .size) (a .limit) (a .blimit) (a .thresh) (now (a .t)) (known at-if1) (in-range at-if2) (c .before .before .if3 .left))
     (refl, c .sample-filtering-unchecked .ensures)
 
 pub sample-filtering-spec : {M : Type 1} → statement M

@@ -13,6 +13,7 @@ use denote.Enum.Declared.{tagOf}
 use Rattle.faults.specs.Faults.{returnedOf}
 use Rattle.faults.specs.declared.PassAnswer.{PassAnswer}
 use Rattle.faults.specs.declared.PassAnswer.the-variants.{Done}
+use Rattle.base.specs.Depth.{supported}
 use Rattle.faults.specs.FaultsLaws.{afterwards, done-or-refused, numbers-passed, numbers-any}
 use Rattle.sheet_header.specs.SheetHeader.{headerOf, badHeader}
 use Rattle.sheet.specs.Sheet.{cellsOf, cellsRuns, sheetRuns}
@@ -41,26 +42,26 @@ good : (c : tie.Else2) → badHeader (c .before .before .header-of-unchecked .re
 good c = sym (c .before .bad-header .ensures) ∙ c .if2 .left
 
 tested : (c : tie.After-number-faults) →
-    let h = c .before .before .before .header-of-unchecked .result in
-    sheetRuns (bytes (c .before .before .before .before .before .before .before)) ≡ afterwards (c .number-faults .result) (cellsRuns h (cellsOf (bytes (c .before .before .before .before .before .before .before))))
+    let h = c .before .before .before .before .header-of-unchecked .result in
+    sheetRuns (bytes (c .before .before .before .before .before .before .before .before)) ≡ afterwards (c .number-faults .result) (cellsRuns h (cellsOf (bytes (c .before .before .before .before .before .before .before .before))))
 tested c =
-    let h = c .before .before .before .header-of-unchecked in
-    sheet-rest (bytes (c .before .before .before .before .before .before .before)) (h .result) (h .ensures) (c .before .before .before .before .if1 .left) (good (c .before))
-    ∙ numbers-any (h .result .sharpness) (h .result .depth) (h .result .subx) (h .result .suby) (h .result .cols) (h .result .rows) (h .result .row) (h .result .col) (h .result .plane) (h .result .pass) _ (c .number-faults .result) (c .number-faults .ensures) (cellsRuns (h .result) (cellsOf (bytes (c .before .before .before .before .before .before .before))))
+    let h = c .before .before .before .before .header-of-unchecked in
+    sheet-rest (bytes (c .before .before .before .before .before .before .before .before)) (h .result) (h .ensures) (c .before .before .before .before .before .if1 .left) (good (c .before .before))
+    ∙ numbers-any (h .result .sharpness) (supported (h .result .depth)) (h .result .subx) (h .result .suby) (h .result .cols) (h .result .rows) (h .result .row) (h .result .col) (h .result .plane) (h .result .pass) _ (c .number-faults .result) (λ after. rw (c .before .is-supported .ensures) at (c .number-faults .ensures after)) (cellsRuns (h .result) (cellsOf (bytes (c .before .before .before .before .before .before .before .before))))
 
 print-words-requires : tie.Need-print-words-requires
 print-words-requires c κs =
-    let h = c .before .before .before .before .before .before .header-of-unchecked in
+    let h = c .before .before .before .before .before .before .before .header-of-unchecked in
     let f = c .before .before .before .number-faults in
-    let n = numbers-passed (h .result .sharpness) (h .result .depth) (h .result .subx) (h .result .suby) (h .result .cols) (h .result .rows) (h .result .row) (h .result .col) (h .result .plane) (h .result .pass) _ (accepted [])
-    (f .ensures (accepted []) ∙ ap (λ r. afterwards r (accepted [])) (c .before .enum-told .given .1)) in
-    (h .ensures, n .0 .placed-at _ _, n .0 .cells-lent, header-narrow (h .result) (good (c .before .before .before .before)), c .before .before .before .before .before .before .before .if1 .left)
+    let n = numbers-passed (h .result .sharpness) (supported (h .result .depth)) (h .result .subx) (h .result .suby) (h .result .cols) (h .result .rows) (h .result .row) (h .result .col) (h .result .plane) (h .result .pass) _ (accepted [])
+    ((rw (c .before .before .before .before .is-supported .ensures) at (f .ensures (accepted []))) ∙ ap (λ r. afterwards r (accepted [])) (c .before .enum-told .given .1)) in
+    (h .ensures, n .0 .placed-at _ _, n .0 .cells-lent, header-narrow (h .result) (good (c .before .before .before .before .before)), c .before .before .before .before .before .before .before .before .if1 .left)
 
 returns-3 : tie.Need-returns-3
 returns-3 c =
-    let h = c .before .before .before .before .before .before .before .before .before .header-of-unchecked in
-    let o = cellsRuns (h .result) (cellsOf (bytes (c .before .before .before .before .before .before .before .before .before .before .before .before .before))) in
-    sheet-text (bytes (c .before .before .before .before .before .before .before .before .before .before .before .before .before)) (h .result) (h .ensures) o (tested (c .before .before .before .before .before .before) ∙ ap (λ r. afterwards r o) (c .before .before .before .before .enum-told .given .1)) _ (c .before .before .print-words .ensures)
+    let h = c .before .before .before .before .before .before .before .before .before .before .header-of-unchecked in
+    let o = cellsRuns (h .result) (cellsOf (bytes (c .before .before .before .before .before .before .before .before .before .before .before .before .before .before))) in
+    sheet-text (bytes (c .before .before .before .before .before .before .before .before .before .before .before .before .before .before)) (h .result) (h .ensures) o (tested (c .before .before .before .before .before .before) ∙ ap (λ r. afterwards r o) (c .before .before .before .before .enum-told .given .1)) _ (c .before .before .print-words .ensures)
 
 -- an answer that is not Done is a refusal
 abbrev refusals : List ℕ
@@ -70,18 +71,18 @@ not-done : (answer : PassAnswer) → OneOf refusals (tagOf the-type answer) → 
 not-done answer k after =
     ⊎-elim (λ (d : answer ≡ Done). absurd (miss refusals 0 tt (subst (λ (a : PassAnswer). OneOf refusals (tagOf the-type a)) d k))) (λ e. e) (done-or-refused answer after)
 
-refusal : (c : tie.After-place-of) → sheetRuns (bytes (c .before .before .before .before .before .before .before .before .before .before .before)) ≡ refused (c .before .number-of .result) (c .place-of .result)
+refusal : (c : tie.After-place-of) → sheetRuns (bytes (c .before .before .before .before .before .before .before .before .before .before .before .before)) ≡ refused (c .before .number-of .result) (c .place-of .result)
 refusal c =
     tested (c .before .before .before .before) ∙ not-done (c .before .before .before .before .number-faults .result) (c .before .before .before .match .keys2) _
     ∙ (λ i. refused (sym (c .before .number-of .ensures) i) (sym (c .place-of .ensures) i))
 
 print-refusal-unchecked-requires-3 : tie.Need-print-refusal-unchecked-requires-3
-print-refusal-unchecked-requires-3 c κs = subst Tame (refusal c) (sheet-tame (bytes (c .before .before .before .before .before .before .before .before .before .before .before)))
+print-refusal-unchecked-requires-3 c κs = subst Tame (refusal c) (sheet-tame (bytes (c .before .before .before .before .before .before .before .before .before .before .before .before)))
 
 returns-4 : tie.Need-returns-4
 returns-4 c =
-    let h = c .before .before .before .before .before .before .before .before .before .before .header-of-unchecked in
-    sheet-text (bytes (c .before .before .before .before .before .before .before .before .before .before .before .before .before .before)) (h .result) (h .ensures) _ (refusal (c .before .before .before)) _ (c .before .before .print-refusal-unchecked3 .ensures)
+    let h = c .before .before .before .before .before .before .before .before .before .before .before .header-of-unchecked in
+    sheet-text (bytes (c .before .before .before .before .before .before .before .before .before .before .before .before .before .before .before)) (h .result) (h .ensures) _ (refusal (c .before .before .before)) _ (c .before .before .print-refusal-unchecked3 .ensures)
 
 pub print-sheet-spec : {M : Type 1} → statement M
 print-sheet-spec =
@@ -95,6 +96,7 @@ print-sheet-spec =
     (search needs)
     (search needs)
     returns-2
+    (search needs)
     (search needs)
     (search needs)
     (search needs)

@@ -51,6 +51,7 @@ use Rattle.faults.specs.Faults.{returnedOf}
 use Rattle.faults.specs.declared.PassAnswer.{PassAnswer}
 use Rattle.faults.proofs.PassAnswer as S
 use Rattle.faults.proofs.PassAnswer.Laws as S′
+use Rattle.base.specs.Width.{U16}
 use Rattle.pass.specs.PassLaws.{pass-place}
 use Rattle.plane_window.specs.PlaneWindow.{shape}
 use Rattle.plane_window.specs.declared.numbers.PassNumbers.{PassNumbers}
@@ -139,7 +140,7 @@ module _ {M : Type 1} (𝓤 : URA M) (H : Heap 𝓤) (A : Atoms 𝓤) (W : Given
 
   both : (r : PassAnswer) (v : Refusal) (zs : List ℕ) → Passes r zs → Crosses r v → Said v zs
   both r v zs e f =
-      let place : returnedOf r .place ≤ 4294967295 = rw (e .0) (pass-place (shape n₁ n₂ n₃ n₄) (d .sharpness) (d .«bit_depth») (d .«sub_x») (d .«sub_y») (d .«mi_cols») (d .«mi_rows») (d .«mi_row») (d .«mi_col») (d .plane) (d .pass) (wordsOf cs) ss) in
+      let place : returnedOf r .place ≤ 4294967295 = rw (e .0) (pass-place U16 (shape n₁ n₂ n₃ n₄) (d .sharpness) (d .«bit_depth») (d .«sub_x») (d .«sub_y») (d .«mi_cols») (d .«mi_rows») (d .«mi_row») (d .«mi_col») (d .plane) (d .pass) (wordsOf cs) ss) in
       (f ∙ crossing-small (returnedOf r) place ∙ e .0, e .1)
 
   -- what each callee's triple binds outside, and that the caller has what it asks

@@ -9,8 +9,7 @@ use Rattle.lane_runs.proofs.across.across_four.Tie as tie
 filter-lanes-unchecked-requires : tie.Need-filter-lanes-unchecked-requires
 filter-lanes-unchecked-requires c κs =
     let start = c .before .before .before .before in
-    let a = start .args in
-    (start .pre .1, omega arith, start .pre .0 .few, loaded-table (a .at) 1 (a .along) (a .n) 4 8 (now (a .samples)) (a .n) _ (c .before .gather-lanes .ensures))
+    (start .pre .1, omega arith, start .pre .0 .run .few, loaded-table (start .pre .0) (omega arith) (c .before .gather-lanes .ensures))
 
 returns : tie.Need-returns
 returns c =
@@ -18,7 +17,7 @@ returns c =
     let gathered = filtered .before .before in
     let start = gathered .before .before .before in
     let a = start .args in
-    lanes-run (a .depth) 0 (a .strength .limit) (a .strength .blimit) (a .strength .thresh) (a .at) 1 (a .along) (a .n) (now (a .samples)) _ _ _ (start .pre .0) (gathered .gather-lanes .ensures) (filtered .filter-lanes-unchecked .ensures .0) (c .before .before .scatter-lanes .ensures)
+    lanes-run (a .depth) 0 (a .strength .limit) (a .strength .blimit) (a .strength .thresh) (a .at) 1 (a .along) (a .n) (now (a .samples)) _ _ (start .pre .0 .run) (gathered .gather-lanes .ensures) (filtered .filter-lanes-unchecked .ensures .0) _ (c .before .before .scatter-lanes .ensures)
 
 returns-2 : tie.Need-returns-2
 returns-2 c =
@@ -26,7 +25,7 @@ returns-2 c =
     let gathered = filtered .before .before in
     let start = gathered .before .before .before in
     let a = start .args in
-    lanes-kept (a .depth) 0 (a .strength .limit) (a .strength .blimit) (a .strength .thresh) (a .at) 1 (a .along) (a .n) (now (a .samples)) _ _ (start .pre .0) (gathered .gather-lanes .ensures) (filtered .filter-lanes-unchecked .ensures .0) (filtered .filter-lanes-unchecked .ensures .1 (c .if1 .left))
+    lanes-kept (a .depth) 0 (a .strength .limit) (a .strength .blimit) (a .strength .thresh) (a .at) 1 (a .along) (a .n) (now (a .samples)) _ _ (start .pre .0 .run) (gathered .gather-lanes .ensures) (filtered .filter-lanes-unchecked .ensures .0) (filtered .filter-lanes-unchecked .ensures .1 (c .if1 .left))
 
 pub across-four-spec : {M : Type 1} → statement M
 across-four-spec =
