@@ -1,2 +1,4 @@
 pub mod ByteSamples
 pub mod ByteArm
+pub mod SaturatingLaws
+pub mod ByteSamplesLaws
