@@ -2,9 +2,9 @@
 -- Assumes nothing.
 use mathlib.Core.Path.{_≡_, refl, sym, _∙_}
 use mathlib.Core.Bool.{Bool, true, false, cond, not, _&&_, _||_}
-use mathlib.Core.Logic.{⊎-elim}
+use mathlib.Core.Logic.{_⊎_, inl, inr, ⊎-elim}
 use mathlib.Core.List.{List}
-use Prim.Native.Nat.{ℕ, _+_, _*_, _/_, _%_, _≤_, _<_}
+use Prim.Native.Nat.{ℕ, zero, suc, _+_, _*_, _/_, _%_, _≤_, _<_}
 use native.Mathlib.Nat.{mul-one}
 use native.Mathlib.Omega.{arith}
 use lib.Dec.{eqb, leb, ltb}
@@ -13,9 +13,12 @@ use Rattle.base.specs.NotationLaws.{split}
 use Rattle.lanes.specs.KeyLine.{keyLine}
 use Rattle.line.specs.Masks.{hevMask, filterMask, flatMask, flatMask2}
 use Rattle.line.specs.NarrowFilter.{narrowFilter}
+use Rattle.line.specs.NarrowFilterLaws.{narrow-kept}
 use Rattle.line.specs.SampleFiltering.{sampleFiltering}
 use Rattle.strength.specs.Strength.{limitOf, strengthOf}
+use Rattle.wide_filter.specs.Taps.{tap}
 use Rattle.wide_filter.specs.WideFilter.{wideFilter}
+use Rattle.wide_filter.specs.WideFilterLaws.{wide-kept}
 use Rattle.byte_filters.specs.ByteArm.{armOf, armed}
 
 unequal : {A : Type 0} → _≡_ {A = Bool} true false → A
@@ -34,6 +37,36 @@ arm-small sharpness key t =
     cases true false flat2 = omega arith
     cases true true false = omega arith
     cases true true true = omega arith
+
+-- the wide filter of fourteen samples is for keys of size 2 alone
+pub arm-large : (sharpness key : ℕ) (t : List ℕ) → leb 128 key ≡ false → eqb (armOf sharpness key t) 3 ≡ false
+unfolding armOf
+arm-large sharpness key t e =
+    let s = strengthOf (key % 64) sharpness in
+    rw e (cases (ltb 0 (key % 64) && filterMask (s .limit) (s .blimit) t) (leb 64 key && flatMask 1 t))
+  where
+    cases : (on flat : Bool) → eqb (cond on (cond flat 2 1) 0) 3 ≡ false
+    cases false flat = refl
+    cases true false = refl
+    cases true true = refl
+
+-- ---- the taps that an arm keeps
+
+outside : {n k : ℕ} → n ≤ 3 → (k < 4) ⊎ (12 ≤ k) → (k + n < 8) ⊎ (8 + n ≤ k)
+outside h = ⊎-elim (λ p. inl (omega arith)) (λ p. inr (omega arith))
+
+-- taps outside p3 to q3 change by that filter alone
+pub arm-inner : (key arm : ℕ) (t : List ℕ) (k : ℕ) → arm ≤ 3 → eqb arm 3 ≡ false → (k < 4) ⊎ (12 ≤ k) → tap (armed key arm t) k ≡ tap t k
+unfolding armed
+arm-inner key zero t k h e out = refl
+arm-inner key (suc zero) t k h e out = let hev = hevMask (key % 64 / 16) t in narrow-kept 8 hev t k (outside (few hev) out)
+  where
+    few : (hev : Bool) → cond hev 1 2 ≤ 3
+    few true = omega arith
+    few false = omega arith
+arm-inner key (suc (suc zero)) t k h e out = wide-kept 3 t k (outside (omega arith) out)
+arm-inner key (suc (suc (suc zero))) t k h e out = unequal e
+arm-inner key (suc (suc (suc (suc n)))) t k h e out = absurd (omega arith)
 
 -- ---- the filter of an arm
 
