@@ -79,9 +79,9 @@ module _ {sharpness : ℕ} {keys arms t u v w : List ℕ} {four six outer : Bool
 
   kept : four || six || outer ≡ false → w ≡ t
   kept e =
-      let (narrow, wide) = neither four e in
-      let (f, g) = neither six wide in
-      third .none g ∙ second .none f ∙ first .none narrow
+      let (inner, last) = neither (four || six) e in
+      let (narrow, wide) = neither four inner in
+      third .none last ∙ second .none wide ∙ first .none narrow
 
   inner : outer ≡ false → (l k : ℕ) → l < 16 → (k < 4) ⊎ (12 ≤ k) → tap (laneOf w l) k ≡ tap (laneOf t l) k
   inner e l k b out =
