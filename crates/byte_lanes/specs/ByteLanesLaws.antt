@@ -42,8 +42,8 @@ module _ {sharpness : ℕ} {keys t : List ℕ} where
 unequal : {A : Type 0} → _≡_ {A = Bool} true false → A
 unequal e = let z : _≡_ {A = ℕ} 0 1 = cc in absurd (omega arith)
 
-pub stage-on : {arm : ℕ} {filter : ℕ → List ℕ → List ℕ} {arms t u : List ℕ} {on : Bool} → on ≡ true → EachLane 16 (armLane arm filter arms) t u → length u ≡ 256 → Stage arm filter arms t u on
-stage-on e lanes long = record { lanes = lanes; long = long; none = λ off. unequal (sym e ∙ off) }
+pub stage-on : {arm : ℕ} {filter : ℕ → List ℕ → List ℕ} {arms t u v : List ℕ} {on : Bool} → on ≡ true → (EachLane 16 (armLane arm filter arms) t v) × (length v ≡ 256) → u ≡ v → Stage arm filter arms t u on
+stage-on e (lanes, long) is = rw is (record { lanes = lanes; long = long; none = λ off. unequal (sym e ∙ off) })
 
 pub stage-off : (arm : ℕ) {filter : ℕ → List ℕ → List ℕ} {arms t u : List ℕ} {on : Bool} → on ≡ hasArm arms arm → on ≡ false → length t ≡ 256 → u ≡ t → Stage arm filter arms t u on
 stage-off arm {filter} {arms} is off long e =
