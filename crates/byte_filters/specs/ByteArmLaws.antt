@@ -1,13 +1,13 @@
 -- Laws of the arm of a line: its filter is the line filter that the key names.
 -- Assumes nothing.
-use mathlib.Core.Path.{_≡_, refl, sym, _∙_}
+use mathlib.Core.Path.{_≡_, refl, sym, _∙_, subst}
 use mathlib.Core.Bool.{Bool, true, false, cond, not, _&&_, _||_}
 use mathlib.Core.Logic.{_⊎_, inl, inr, ⊎-elim}
 use mathlib.Core.List.{List}
 use Prim.Native.Nat.{ℕ, zero, suc, _+_, _*_, _/_, _%_, _≤_, _<_}
 use native.Mathlib.Nat.{mul-one}
 use native.Mathlib.Omega.{arith}
-use lib.Dec.{eqb, leb, ltb}
+use lib.Dec.{T, eqb, leb, ltb}
 use borrow.Author.Tests.{le-leb, lt-leb, eq-eqb, ne-eqb}
 use Rattle.base.specs.NotationLaws.{split}
 use Rattle.lanes.specs.KeyLine.{keyLine}
@@ -20,9 +20,6 @@ use Rattle.wide_filter.specs.Taps.{tap}
 use Rattle.wide_filter.specs.WideFilter.{wideFilter}
 use Rattle.wide_filter.specs.WideFilterLaws.{wide-kept}
 use Rattle.byte_filters.specs.ByteArm.{armOf, armed}
-
-unequal : {A : Type 0} → _≡_ {A = Bool} true false → A
-unequal e = let z : _≡_ {A = ℕ} 0 1 = cc in absurd (omega arith)
 
 -- ---- how great an arm is
 
@@ -65,7 +62,7 @@ arm-inner key (suc zero) t k h e out = let hev = hevMask (key % 64 / 16) t in na
     few true = omega arith
     few false = omega arith
 arm-inner key (suc (suc zero)) t k h e out = wide-kept 3 t k (outside (omega arith) out)
-arm-inner key (suc (suc (suc zero))) t k h e out = unequal e
+arm-inner key (suc (suc (suc zero))) t k h e out = absurd (subst T e tt)
 arm-inner key (suc (suc (suc (suc n)))) t k h e out = absurd (omega arith)
 
 -- ---- the filter of an arm
@@ -105,7 +102,7 @@ module _ (sharpness key : ℕ) (t : List ℕ) where
       sized =
           ⊎-elim
           (λ (p : key < 64).
-          arm-size false false true false (lt-leb 64 key p) (lt-leb 128 key (omega arith)) (eq-eqb (key / 64) 0 (omega arith)) (ne-eqb (key / 64) 1 (λ e. omega arith)) refl (λ e. unequal e))
+          arm-size false false true false (lt-leb 64 key p) (lt-leb 128 key (omega arith)) (eq-eqb (key / 64) 0 (omega arith)) (ne-eqb (key / 64) 1 (λ e. omega arith)) refl (λ e. absurd (subst T e tt)))
           (λ (p : 64 ≤ key).
           ⊎-elim
           (λ (k : key < 128).

@@ -1,12 +1,12 @@
 -- Laws of lanes of bytes: the lanes of each arm in turn are all lanes by their keys.
 -- Assumes nothing.
-use mathlib.Core.Path.{_≡_, refl, sym, ap, _∙_}
+use mathlib.Core.Path.{_≡_, refl, sym, ap, _∙_, subst}
 use mathlib.Core.Bool.{Bool, true, false, _||_}
 use mathlib.Core.List.{List}
 use mathlib.Core.Logic.{_⊎_, ⊎-elim}
 use Prim.Native.Nat.{ℕ, zero, suc, _+_, _≤_, _<_}
 use native.Mathlib.Omega.{arith}
-use lib.Dec.{eqb, leb}
+use lib.Dec.{T, eqb, leb}
 use lib.ListN.{length, getD, set}
 use lib.Seq.{getD-set-same, getD-set-other}
 use Rattle.base.specs.First.{found, found-none, found-false}
@@ -39,11 +39,8 @@ module _ {sharpness : ℕ} {keys t : List ℕ} where
 
 -- ---- the lanes of one arm
 
-unequal : {A : Type 0} → _≡_ {A = Bool} true false → A
-unequal e = let z : _≡_ {A = ℕ} 0 1 = cc in absurd (omega arith)
-
 pub stage-on : {arm : ℕ} {filter : ℕ → List ℕ → List ℕ} {arms t u v : List ℕ} {on : Bool} → on ≡ true → (EachLane 16 (armLane arm filter arms) t v) × (length v ≡ 256) → u ≡ v → Stage arm filter arms t u on
-stage-on e (lanes, long) is = rw is (record { lanes = lanes; long = long; none = λ off. unequal (sym e ∙ off) })
+stage-on e (lanes, long) is = rw is (record { lanes = lanes; long = long; none = λ off. absurd (subst T (sym e ∙ off) tt) })
 
 pub stage-off : (arm : ℕ) {filter : ℕ → List ℕ → List ℕ} {arms t u : List ℕ} {on : Bool} → on ≡ hasArm arms arm → on ≡ false → length t ≡ 256 → u ≡ t → Stage arm filter arms t u on
 stage-off arm {filter} {arms} is off long e =
