@@ -9,7 +9,7 @@ ghost use Rattle.lane_filters.specs.LaneSamples.{samplesOf, fourOf, sixO
 mod depth;
 mod masks;
 mod narrow;
-mod wide;
+pub mod wide;
 
 use depth::scaled;
 use masks::filter_mask;
@@ -17,8 +17,8 @@ use masks::flat_mask;
 use masks::flat_mask2;
 use masks::hev_mask;
 use narrow::narrow_filter;
-use wide::wide_filter_fourteen;
-use wide::wide_filter_six;
+use wide::wide_fourteen_unchecked;
+use wide::wide_six_unchecked;
 
 // A line by the names of its samples.
 pub struct Lane {
@@ -137,7 +137,7 @@ pub fn lane_six_unchecked(a: Lane, depth: u8, limit: u8, blimit: u8, thresh: u8)
         let hev = hev_mask(a, scaled(thresh, depth));
         return with_four(a, narrow_filter(a, hev, depth));
     }
-    wide_filter_six(a)
+    wide_six_unchecked(a)
 }
 
 pub fn lane_fourteen_unchecked(a: Lane, depth: u8, limit: u8, blimit: u8, thresh: u8) -> Lane
@@ -152,7 +152,7 @@ pub fn lane_fourteen_unchecked(a: Lane, depth: u8, limit: u8, blimit: u8, thresh
         return with_six(a, with_four(a, narrow_filter(a, hev, depth)));
     }
     if !flat_mask2(a, scaled(1, depth)) {
-        return with_six(a, wide_filter_six(a));
+        return with_six(a, wide_six_unchecked(a));
     }
-    wide_filter_fourteen(a)
+    wide_fourteen_unchecked(a)
 }

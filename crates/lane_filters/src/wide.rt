@@ -78,7 +78,7 @@ fn side7(
 }
 
 // The six samples around the edge.
-pub(crate) fn wide_filter_six(a: Lane) -> Six
+pub fn wide_six_unchecked(a: Lane) -> Six
     requires { ⌜ Small a ⌝ }
     ensures { λ r. ⌜ putTaps (samplesOf a) 5 (sixOf r) ≡ wideFilter 3 (samplesOf a) ⌝ }
 {
@@ -95,7 +95,7 @@ pub(crate) fn wide_filter_six(a: Lane) -> Six
 }
 
 // The fourteen samples around the edge.
-pub(crate) fn wide_filter_fourteen(a: Lane) -> Lane
+pub fn wide_fourteen_unchecked(a: Lane) -> Lane
     requires { ⌜ Small a ⌝ }
     ensures { λ r. ⌜ putTaps (samplesOf a) 1 (fourteenOf r) ≡ wideFilter 4 (samplesOf a) ⌝ }
 {

@@ -42,7 +42,7 @@ returns-3 c =
     let rough : not (flatMask2 (scaled (a .depth) 1) (samplesOf (a .a))) ≡ true =
     rw (flat2 .flat-mask2 .ensures, flat2 .before .scaled3 .ensures .0) at (at-if3 .if3 .taken) in
     c .with-six2 .ensures
-    ∙ c .before .wide-filter-six .ensures
+    ∙ c .before .wide-six-unchecked .ensures
     ∙ filters-six (a .depth) 2 (a .limit) (a .blimit) (a .thresh) (samplesOf (a .a)) (sym (m .lane-mask-unchecked .ensures) ∙ not-false (m .lane-mask-unchecked .result) (flat .before .before .if1 .left)) smooth rough
 
 returns-4 : tie.Need-returns-4
@@ -57,7 +57,7 @@ returns-4 c =
     rw (flat .flat-mask .ensures, flat .before .scaled .ensures .0) at (at-if2 .if2 .left) in
     let smooth2 : not (flatMask2 (scaled (a .depth) 1) (samplesOf (a .a))) ≡ false =
     rw (flat2 .flat-mask2 .ensures, flat2 .before .scaled3 .ensures .0) at (at-if3 .if3 .left) in
-    c .wide-filter-fourteen .ensures
+    c .wide-fourteen-unchecked .ensures
     ∙ filters-fourteen (a .depth) 2 (a .limit) (a .blimit) (a .thresh) (samplesOf (a .a)) (sym (m .lane-mask-unchecked .ensures) ∙ not-false (m .lane-mask-unchecked .result) (flat .before .before .if1 .left)) smooth smooth2
 
 pub lane-fourteen-unchecked-spec : {M : Type 1} → statement M

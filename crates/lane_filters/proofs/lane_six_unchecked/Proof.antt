@@ -36,7 +36,7 @@ returns-3 c =
     let a = m .before .args in
     let smooth : not (flatMask (scaled (a .depth) 1) (samplesOf (a .a))) ≡ false =
     rw (flat .flat-mask .ensures, flat .before .scaled .ensures .0) at (at-if2 .if2 .left) in
-    c .wide-filter-six .ensures
+    c .wide-six-unchecked .ensures
     ∙ filters-six (a .depth) 1 (a .limit) (a .blimit) (a .thresh) (samplesOf (a .a)) (sym (m .lane-mask-unchecked .ensures) ∙ not-false (m .lane-mask-unchecked .result) (flat .before .before .if1 .left)) smooth refl
 
 pub lane-six-unchecked-spec : {M : Type 1} → statement M
