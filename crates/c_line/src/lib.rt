@@ -1,9 +1,9 @@
-// The line over an array of 16.
+// The line over an array of 16, and over bytes.
 ghost use mathlib.Core.Path.{_≡_};
 ghost use Prim.Native.Nat.{_≤_};
 ghost use Rattle.base.specs.Outcome.{Answers};
-ghost use Rattle.base.specs.Width.{U16};
-ghost use Rattle.line.specs.Line.{line, returnedOf};
+ghost use Rattle.base.specs.Width.{Byte, U16};
+ghost use Rattle.line.specs.Line.{line, lentLine, returnedOf};
 ghost use Rattle.c_border.specs.Border.{numbersOf};
 use c_border::Refusal;
 use line::LineAnswer;
@@ -52,5 +52,23 @@ pub extern "C" fn springspade_line(
     ensures { λ r. ⌜ Answers (line U16 «bit_depth» «filter_size» limit blimit thresh (now (taps .entry))) (numbersOf r) (now (taps .entry)) (now (taps .exit)) ⌝ }
 {
     let answer = line::sample_filtering(taps, bit_depth, filter_size, limit, blimit, thresh);
+    refusal_of(answer)
+}
+
+// As springspade_line over bytes: the first 16 of taps, the bytes behind them are left. bit_depth: 8.
+// Refusals: 2 bit_depth not 8; 7 fewer than 16 bytes; 15 filter_size above 2.
+#[no_mangle]
+pub extern "C" fn springspade_line_bytes(
+    taps: &mut [u8],
+    bit_depth: u8,
+    filter_size: u8,
+    limit: u8,
+    blimit: u8,
+    thresh: u8,
+) -> Refusal
+    ensures { λ r. ⌜ Answers (lentLine Byte «bit_depth» «filter_size» limit blimit thresh (now (taps .entry))) (numbersOf r) (now (taps .entry)) (now (taps .exit)) ⌝ }
+{
+    let answer =
+        byte_line::sample_filtering_bytes(taps, bit_depth, filter_size, limit, blimit, thresh);
     refusal_of(answer)
 }

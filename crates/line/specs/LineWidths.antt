@@ -1,17 +1,20 @@
 -- The line at both widths of samples: over a lent list, over bytes, and over the same samples at either width.
 -- Assumes nothing.
 use mathlib.Core.Path.{_≡_, refl, sym, _∙_}
-use mathlib.Core.Bool.{true, false}
+use mathlib.Core.Bool.{true, false, not}
 use mathlib.Core.List.{List}
 use Prim.Native.Nat.{ℕ, _^_, _≤_, _<_}
+use native.Mathlib.Omega.{arith}
+use lib.Dec.{ltb}
 use lib.ListN.{length}
 use borrow.Author.Tests.{lt-ltb, le-ltb, lt-leb}
 use Rattle.base.specs.Depth.{supported}
 use Rattle.base.specs.First.{found, found-none}
-use Rattle.base.specs.Outcome.{accepted, refused}
+use Rattle.base.specs.Outcome.{accepted, refused, returned}
+use Rattle.base.specs.OutcomeLaws.{refuse-place}
 use Rattle.base.specs.Width.{Width, Byte, U16, admits, Ranged, byte-range}
 use Rattle.line.specs.Line.{reaches, line, lentLine}
-use Rattle.line.specs.LineLaws.{line-size, line-filtered}
+use Rattle.line.specs.LineLaws.{line-size, line-filtered, line-place}
 use Rattle.line.specs.SampleFiltering.{sampleFiltering}
 
 -- ---- the line over a lent list
@@ -29,6 +32,11 @@ module _ (w : Width) (depth size limit blimit thresh : ℕ) (t : List ℕ) where
     pub lent-line : 16 ≤ length t → lentLine w depth size limit blimit thresh t ≡ line w depth size limit blimit thresh t
     unfolding lentLine
     lent-line h = rw (d, le-ltb (length t) 16 h)
+
+  -- a place is a tap's, or 0
+  pub lent-place : returned (lentLine w depth size limit blimit thresh t) .place ≤ 16
+  unfolding lentLine
+  lent-place = refuse-place 16 (not (admits w depth)) 2 0 _ (λ e. omega arith) (λ d. refuse-place 16 (ltb (length t) 16) 7 0 _ (λ e. omega arith) (λ h. line-place w depth size limit blimit thresh t))
 
 -- ---- bytes are in range, so the search for 13 finds nothing
 
