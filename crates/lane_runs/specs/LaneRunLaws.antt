@@ -15,14 +15,15 @@ use Rattle.wide_filter.specs.Taps.{tap, Agree}
 use Rattle.window.specs.InsideRun.{plainLines, plainRun}
 use Rattle.window.specs.Stencil.{taps, inTurn}
 use Rattle.window.specs.StencilLaws.{gather-at, gather-length}
-use Rattle.lane_runs.specs.Spread.{placeOf, Spread, SpacedRun, Loaded}
+use Rattle.lane_runs.specs.Spread.{placeOf, Spread, SpacedRun, Loaded, Taken}
+use Rattle.lane_runs.specs.SpreadLaws.{spread-taken}
 use Rattle.lane_runs.specs.Local.{Local, sample-local}
 use Rattle.lane_runs.specs.PlainRunLaws.{spread-run}
 
 -- ---- each lane by a line filter of its own
 
 module _ (f : ℕ → List ℕ → List ℕ) (r c : ℕ) (within : c ≤ r) (all : r ≤ 8) (at step along n : ℕ) (local : (l : ℕ) → l < n → Local r c (f l)) (w t t′ : List ℕ)
-    (run : SpacedRun at step along n w) (loaded : Loaded at step along n (8 - r) (2 * r) w t) (lanes : EachLane n f t t′) where
+    (run : SpacedRun at step along n w) (loaded : Taken at step along n (8 - r) (2 * r) w t) (lanes : EachLane n f t t′) where
   abbrev line : ℕ → List ℕ
   line l = taps (plainLines at step along f l) w
 
@@ -34,7 +35,7 @@ module _ (f : ℕ → List ℕ → List ℕ) (r c : ℕ) (within : c ≤ r) (all
   loaded-agree : (l : ℕ) → l < n → Agree r (laneOf t l) (line l)
   loaded-agree l a = record {
     same = λ k p q.
-        lane-tap t l k (omega arith) ∙ ap (tap t) (omega arith) ∙ loaded .done l k a (omega arith) (omega arith) ∙ sym (line-tap l k (omega arith));
+        lane-tap t l k (omega arith) ∙ loaded .taken l k a (omega arith) (omega arith) ∙ sym (line-tap l k (omega arith));
   }
 
   filtered-tap : (l k : ℕ) → l < n → 8 - c ≤ k → k < 8 - c + 2 * c → tap t′ (16 * k + l) ≡ tap (f l (line l)) k
@@ -57,7 +58,7 @@ module _ (f : ℕ → List ℕ → List ℕ) (r c : ℕ) (within : c ≤ r) (all
       (record {
         long = refl;
         done = λ l k a b d.
-            sym (ap (λ (x : List ℕ). tap x (16 * k + l)) e ∙ ap (tap t) (omega arith) ∙ loaded .done l k a (omega arith) (omega arith));
+            sym (ap (λ (x : List ℕ). tap x (16 * k + l)) e ∙ loaded .taken l k a (omega arith) (omega arith));
         kept = λ j h. refl;
       })
 
@@ -77,8 +78,8 @@ module _ (B size limit blimit thresh at step along n : ℕ) (w t t′ : List ℕ
 
   pub lanes-run : (u : List ℕ) → Spread at step along n (firstChanged size) (2 * changes size) (λ l k. tap t′ (16 * k + l)) w u → u ≡ inTurn (plainRun at step along F) n w
   lanes-run u stored =
-      each-lane-run (λ _. F) (reads size) (changes size) (changes-read size) (reads-few size) at step along n (λ l a. sample-local B size limit blimit thresh) w t t′ run loaded lanes u stored
+      each-lane-run (λ _. F) (reads size) (changes size) (changes-read size) (reads-few size) at step along n (λ l a. sample-local B size limit blimit thresh) w t t′ run (spread-taken loaded) lanes u stored
 
   pub lanes-kept : t′ ≡ t → w ≡ inTurn (plainRun at step along F) n w
   lanes-kept e =
-      each-lane-kept (λ _. F) (reads size) (changes size) (changes-read size) (reads-few size) at step along n (λ l a. sample-local B size limit blimit thresh) w t t′ run loaded lanes e
+      each-lane-kept (λ _. F) (reads size) (changes size) (changes-read size) (reads-few size) at step along n (λ l a. sample-local B size limit blimit thresh) w t t′ run (spread-taken loaded) lanes e
