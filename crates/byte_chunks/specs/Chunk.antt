@@ -6,14 +6,14 @@ use mathlib.Core.List.{List}
 use mathlib.Core.Logic.{_⊎_}
 use Prim.Native.Nat.{ℕ, _+_, _*_, _≤_, _<_}
 use lib.ListN.{length, getD}
-use Rattle.byte_filters.specs.ByteArm.{keyed}
+use Rattle.lanes.specs.KeyLine.{keyLine}
 use Rattle.lane_runs.specs.Spread.{placeOf, Spaced}
 use Rattle.window.specs.InsideRun.{plain}
 use Rattle.window.specs.Stencil.{Stencil}
 
 -- position k of a chunk
 abbrev pub keyedRun : (at step along sharpness : ℕ) (keys : List ℕ) (k : ℕ) → Stencil
-keyedRun at step along sharpness keys k = plain (at + k * along) step (keyed sharpness (getD keys k 0))
+keyedRun at step along sharpness keys k = plain (at + k * along) step (keyLine sharpness 8 (getD keys k 0))
 
 -- positions that share no sample, all of whose taps are lent
 pub record Chunk (at step along n : ℕ) (w : List ℕ) : Type 0 where

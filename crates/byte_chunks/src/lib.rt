@@ -1,4 +1,5 @@
-// A chunk of at most 16 positions of an edge in a lent list of bytes: loaded as lanes, filtered by their keys, and stored.ghost use mathlib.Core.Path.{_≡_};
+// A chunk of at most 16 positions of an edge in a lent list of bytes: loaded as lanes, filtered by their keys, and stored.
+ghost use mathlib.Core.Path.{_≡_};
 ghost use mathlib.Core.Logic.{_⊎_};
 ghost use Prim.Native.Nat.{_*_, _+_, _≤_, _<_};
 ghost use lib.Dec.{leb};
@@ -15,9 +16,7 @@ mod rows;
 
 use across::load_across;
 use across::store_across;
-use byte_lanes::any_arm;
-use byte_lanes::filter_arms_unchecked;
-use byte_lanes::lane_arms_unchecked;
+use byte_lanes::filter_byte_lanes_unchecked;
 use down::load_down;
 use down::store_down;
 
@@ -89,10 +88,8 @@ pub fn filter_chunk_unchecked(
 {
     let mut t = [0u8; 256];
     load(&mut t, samples, at, step, along, n, any_large(keys));
-    let arms = lane_arms_unchecked(&t, keys, sharpness);
-    let outer = any_arm(&arms, 3);
-    if any_arm(&arms, 1) | any_arm(&arms, 2) | outer {
-        filter_arms_unchecked(&mut t, keys, &arms);
-        store(samples, at, step, along, n, &mut t, outer);
+    let changed = filter_byte_lanes_unchecked(&mut t, keys, sharpness);
+    if changed.some {
+        store(samples, at, step, along, n, &mut t, changed.outer);
     }
 }

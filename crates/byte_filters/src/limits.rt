@@ -2,7 +2,7 @@
 ghost use mathlib.Core.Path.{_≡_};
 ghost use Prim.Native.Nat.{_+_, _*_, _≤_, _<_, min};
 ghost use Rattle.strength.specs.Strength.{shift, limitOf};
-ghost use Rattle.byte_filters.specs.ByteArm.{topLimit};
+ghost use Rattle.byte_filters.specs.TopLimit.{topLimit};
 
 fn shift_of(sharpness: u8) -> u8
     ensures { λ r. ⌜ (r ≡ shift sharpness) × (r ≤ 2) ⌝ }

@@ -1,6 +1,6 @@
 // The narrow filter (8.8.5.4) on bytes: each value is raised by half its range, and sums and differences stop at the ends of a byte.
 ghost use mathlib.Core.Path.{_≡_};
-ghost use Prim.Native.Nat.{_≤_, _<_};
+ghost use Prim.Native.Nat.{_<_};
 ghost use Rattle.line.specs.NarrowFilter.{narrowFilter};
 ghost use Rattle.lane_filters.specs.LaneSamples.{putTaps};
 ghost use Rattle.lane_filters.specs.RaisedFilter.{raisedBase, raisedFilter, raisedEighth, raisedHalf, increased, decreased};

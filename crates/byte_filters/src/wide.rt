@@ -1,7 +1,8 @@
 // The wide filter (8.8.5.3) on bytes. Its sums take 16 bits: the lane is widened, and what it gives is made bytes again.
 ghost use mathlib.Core.Path.{_≡_};
 ghost use Prim.Native.Nat.{_<_};
-ghost use Rattle.lane_filters.specs.LaneSamples.{samplesOf, putTaps, Small};
+ghost use Rattle.lane_filters.specs.LaneSamples.{samplesOf, putTaps};
+ghost use Rattle.wide_filter.specs.Taps.{Within};
 ghost use Rattle.wide_filter.specs.WideFilter.{wideFilter};
 ghost use Rattle.byte_filters.specs.ByteSamples.{bytesOf, byteSixOf, byteFourteenOf};
 use crate::ByteLane;
@@ -17,7 +18,7 @@ fn wide(x: u8) -> u16
 }
 
 fn widened(a: ByteLane) -> Lane
-    ensures { λ r. ⌜ (samplesOf r ≡ bytesOf a) × Small r ⌝ }
+    ensures { λ r. ⌜ (samplesOf r ≡ bytesOf a) × Within 256 (samplesOf r) ⌝ }
 {
     Lane {
         p7: wide(a.p7),
@@ -39,7 +40,7 @@ fn widened(a: ByteLane) -> Lane
     }
 }
 
-// Each sample is a mean of bytes, which is a byte: to prove of wideFilter once.
+// Each sample is a mean of bytes, which is a byte.
 
 pub(crate) fn wide_six(a: ByteLane) -> ByteSix
     ensures { λ r. ⌜ putTaps (bytesOf a) 5 (byteSixOf r) ≡ wideFilter 3 (bytesOf a) ⌝ }

@@ -1,1 +1,2 @@
 pub mod ByteLanes
+pub mod ByteLanesLaws

@@ -1,13 +1,10 @@
 // The line filter on 16 lanes of bytes at once, each with a key of its own. Loops have no branch, so that they vectorise.
 ghost use mathlib.Core.Path.{_≡_};
 ghost use Prim.Native.Nat.{_≤_, _<_};
-ghost use lib.Dec.{eqb};
-ghost use lib.ListN.{length, getD};
-ghost use Rattle.base.specs.First.{found};
-ghost use Rattle.byte_filters.specs.ByteArm.{armed};
-ghost use Rattle.byte_filters.specs.ByteSamples.{byteFourOf, byteSixOf, byteFourteenOf};
-ghost use Rattle.lanes.specs.Lanes.{putLane};
-ghost use Rattle.byte_lanes.specs.ByteLanes.{byteLaneAt, Keys, Arms, SmallArms, EachLane, narrowArm, wideArm};
+ghost use lib.ListN.{length};
+ghost use Rattle.byte_filters.specs.ByteSamples.{bytesOf, byteFourOf, byteSixOf, byteFourteenOf};
+ghost use Rattle.lanes.specs.Lanes.{laneOf, putLane, EachLane};
+ghost use Rattle.byte_lanes.specs.ByteLanes.{Keys, ArmsTo, hasArm, armLane, narrowLane, wideLane, Filtered};
 use byte_filters::ByteFour;
 use byte_filters::ByteLane;
 use byte_filters::ByteSix;
@@ -16,9 +13,15 @@ use byte_filters::byte_fourteen;
 use byte_filters::byte_six;
 use byte_filters::lane_arm_unchecked;
 
+// What filtering changed: some lane, and some tap outside p3 to q3.
+pub struct Changed {
+    pub some: bool,
+    pub outer: bool,
+}
+
 fn lane_at(t: &[u8; 256], l: usize) -> ByteLane
     requires { ⌜ l < 16 ⌝ }
-    ensures { λ r. ⌜ r ≡ byteLaneAt (now (t .entry)) l ⌝ }
+    ensures { λ r. ⌜ bytesOf r ≡ laneOf (now (t .entry)) l ⌝ }
 {
     ByteLane {
         p7: t[l],
@@ -85,9 +88,9 @@ fn put_fourteen(t: &mut [u8; 256], l: usize, r: ByteLane)
 }
 
 // The filter of each lane by its key.
-pub fn lane_arms_unchecked(t: &[u8; 256], keys: &[u8; 16], sharpness: u8) -> [u8; 16]
+fn lane_arms(t: &[u8; 256], keys: &[u8; 16], sharpness: u8) -> [u8; 16]
     requires { ⌜ (sharpness ≤ 7) × Keys (now keys) ⌝ }
-    ensures { λ r. ⌜ Arms sharpness (now (keys .entry)) (now (t .entry)) r × SmallArms r ⌝ }
+    ensures { λ r. ⌜ ArmsTo 16 sharpness (now (keys .entry)) (now (t .entry)) r ⌝ }
 {
     let mut arms = [0u8; 16];
     let mut l: usize = 0;
@@ -99,8 +102,8 @@ pub fn lane_arms_unchecked(t: &[u8; 256], keys: &[u8; 16], sharpness: u8) -> [u8
 }
 
 // Whether a lane gets the filter arm.
-pub fn any_arm(arms: &[u8; 16], arm: u8) -> bool
-    ensures { λ r. ⌜ r ≡ found (λ l. eqb (getD (now (arms .entry)) l 0) arm) 16 ⌝ }
+fn any_arm(arms: &[u8; 16], arm: u8) -> bool
+    ensures { λ r. ⌜ r ≡ hasArm (now (arms .entry)) arm ⌝ }
 {
     let mut on = false;
     let mut l: usize = 0;
@@ -115,7 +118,7 @@ pub fn any_arm(arms: &[u8; 16], arm: u8) -> bool
 
 fn lanes_four(t: &mut [u8; 256], keys: &[u8; 16], arms: &[u8; 16])
     requires { ⌜ length (now t) ≡ 256 ⌝ }
-    ensures { λ r. ⌜ EachLane (narrowArm (now (keys .entry)) (now (arms .entry))) (now (t .entry)) (now (t .exit)) × (length (now (t .exit)) ≡ 256) ⌝ }
+    ensures { λ r. ⌜ EachLane 16 (armLane 1 (narrowLane (now (keys .entry))) (now (arms .entry))) (now (t .entry)) (now (t .exit)) × (length (now (t .exit)) ≡ 256) ⌝ }
 {
     let mut l: usize = 0;
     while l < 16 {
@@ -127,7 +130,7 @@ fn lanes_four(t: &mut [u8; 256], keys: &[u8; 16], arms: &[u8; 16])
 
 fn lanes_six(t: &mut [u8; 256], arms: &[u8; 16])
     requires { ⌜ length (now t) ≡ 256 ⌝ }
-    ensures { λ r. ⌜ EachLane (wideArm 2 3 (now (arms .entry))) (now (t .entry)) (now (t .exit)) × (length (now (t .exit)) ≡ 256) ⌝ }
+    ensures { λ r. ⌜ EachLane 16 (armLane 2 (wideLane 3) (now (arms .entry))) (now (t .entry)) (now (t .exit)) × (length (now (t .exit)) ≡ 256) ⌝ }
 {
     let mut l: usize = 0;
     while l < 16 {
@@ -139,7 +142,7 @@ fn lanes_six(t: &mut [u8; 256], arms: &[u8; 16])
 
 fn lanes_fourteen(t: &mut [u8; 256], arms: &[u8; 16])
     requires { ⌜ length (now t) ≡ 256 ⌝ }
-    ensures { λ r. ⌜ EachLane (wideArm 3 4 (now (arms .entry))) (now (t .entry)) (now (t .exit)) × (length (now (t .exit)) ≡ 256) ⌝ }
+    ensures { λ r. ⌜ EachLane 16 (armLane 3 (wideLane 4) (now (arms .entry))) (now (t .entry)) (now (t .exit)) × (length (now (t .exit)) ≡ 256) ⌝ }
 {
     let mut l: usize = 0;
     while l < 16 {
@@ -149,18 +152,26 @@ fn lanes_fourteen(t: &mut [u8; 256], arms: &[u8; 16])
     }
 }
 
-// Filters each lane by its arm. A loop that would change no lane is left out.
-pub fn filter_arms_unchecked(t: &mut [u8; 256], keys: &[u8; 16], arms: &[u8; 16])
-    requires { ⌜ (length (now t) ≡ 256) × SmallArms (now arms) ⌝ }
-    ensures { λ r. ⌜ EachLane (λ l. armed (getD (now (keys .entry)) l 0) (getD (now (arms .entry)) l 0)) (now (t .entry)) (now (t .exit)) ⌝ }
+// Filters each lane by its key. A loop that would change no lane is left out.
+pub fn filter_byte_lanes_unchecked(t: &mut [u8; 256], keys: &[u8; 16], sharpness: u8) -> Changed
+    requires { ⌜ (length (now t) ≡ 256) × Keys (now keys) × (sharpness ≤ 7) ⌝ }
+    ensures { λ r. ⌜ Filtered sharpness (now (keys .entry)) (now (t .entry)) (now (t .exit)) r ⌝ }
 {
-    if any_arm(arms, 1) {
-        lanes_four(t, keys, arms);
+    let arms = lane_arms(t, keys, sharpness);
+    let four = any_arm(&arms, 1);
+    let six = any_arm(&arms, 2);
+    let outer = any_arm(&arms, 3);
+    if four {
+        lanes_four(t, keys, &arms);
     }
-    if any_arm(arms, 2) {
-        lanes_six(t, arms);
+    if six {
+        lanes_six(t, &arms);
     }
-    if any_arm(arms, 3) {
-        lanes_fourteen(t, arms);
+    if outer {
+        lanes_fourteen(t, &arms);
+    }
+    Changed {
+        some: four | six | outer,
+        outer,
     }
 }

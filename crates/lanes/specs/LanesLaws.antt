@@ -118,16 +118,9 @@ lane-step f t u m k vs n h g e inv =
         (λ (x : m ≤ l). let y : l ≡ m = omega arith in rw y last)
         (split l m)
 
-samples-lane : (t : List ℕ) (l : ℕ) → samplesOf (laneAt t l) ≡ laneOf t l
-unfolding laneOf
-samples-lane t l = refl
-
-pub lane-more : {f : ℕ → List ℕ → List ℕ} {m : ℕ} {t u v : List ℕ} {a : Lane} (k : ℕ) (vs : List ℕ) → m < 16 → k + length vs ≤ 16 → length u ≡ 256 → EachLaneTo m f t u → a ≡ laneAt u m → putTaps (samplesOf a) k vs ≡ f m (samplesOf a) → v ≡ putLane u m k vs → (length v ≡ 256) × EachLaneTo (m + 1) f t v
-lane-more {f} {m} {t} {u} {v} {a} k vs h g n inv is e d =
-    let q : samplesOf a ≡ laneOf u m = ap samplesOf is ∙ samples-lane u m in (
-      ap length d ∙ put-length u m k vs ∙ n,
-      rw d (lane-step f t u m k vs n h g (ap (λ (x : List ℕ). putTaps x k vs) (sym q) ∙ e ∙ ap (f m) q) inv),
-    )
+pub lane-more : {f : ℕ → List ℕ → List ℕ} {m : ℕ} {t u v line : List ℕ} (k : ℕ) (vs : List ℕ) → m < 16 → k + length vs ≤ 16 → length u ≡ 256 → EachLaneTo m f t u → line ≡ laneOf u m → putTaps line k vs ≡ f m line → v ≡ putLane u m k vs → (length v ≡ 256) × EachLaneTo (m + 1) f t v
+lane-more {f} {m} {t} {u} {v} k vs h g n inv is e d =
+    (ap length d ∙ put-length u m k vs ∙ n, rw d (lane-step f t u m k vs n h g (ap (λ (x : List ℕ). putTaps x k vs) (sym is) ∙ e ∙ ap (f m) is) inv))
 
 pub lanes-fewer : {n m : ℕ} {f : ℕ → List ℕ → List ℕ} {t u : List ℕ} → n ≤ m → EachLane m f t u → EachLane n f t u
 lanes-fewer h all = record { each = λ l b. all .each l (omega arith) }
@@ -136,6 +129,10 @@ pub lanes-all : {n m : ℕ} {f : ℕ → List ℕ → List ℕ} {t u : List ℕ}
 lanes-all h inv = record { each = λ l b. inv .done l (omega arith) }
 
 -- ---- samples of 12 bits
+
+pub lane-samples : {a : Lane} (t : List ℕ) (l : ℕ) → a ≡ laneAt t l → samplesOf a ≡ laneOf t l
+unfolding laneOf
+lane-samples t l is = ap samplesOf is
 
 pub small-at : (t : List ℕ) (l : ℕ) → l < 16 → Table t → Small (laneAt t l)
 small-at t l h s =
@@ -172,7 +169,7 @@ module _ (n depth limit blimit : ℕ) where
 
       last : m < n → filterMask (scaled depth limit) (scaled depth blimit) (laneOf t m) ≡ false
       last h =
-          ap (filterMask (scaled depth limit) (scaled depth blimit)) (sym (samples-lane t m) ∙ ap samplesOf (sym is))
+          ap (filterMask (scaled depth limit) (scaled depth blimit)) (sym (lane-samples t m is))
           ∙ off (filterMask (scaled depth limit) (scaled depth blimit) (samplesOf a)) (rw (lt-ltb m n h) at e)
 
   -- where the mask is off every lane is kept

@@ -7,7 +7,7 @@ use denote.Ref.{now}
 use Rattle.line.specs.SampleFiltering.{sampleFiltering}
 use Rattle.lane_filters.specs.LaneSamples.{sixOf}
 use Rattle.lanes.specs.Lanes.{LanesTo}
-use Rattle.lanes.specs.LanesLaws.{lanes-none, lanes-all, lane-more, small-in}
+use Rattle.lanes.specs.LanesLaws.{lanes-none, lanes-all, lane-more, lane-samples, small-in}
 use Rattle.lanes.proofs.lanes_six.Statement.{statement}
 use Rattle.lanes.proofs.lanes_six.Tie as tie
 
@@ -40,7 +40,7 @@ loop-again c =
     let lane = c .before .before .before in
     let loop = lane .before .before .before in
     let r = c .before .before .lane-six-unchecked in
-    let more = lane-more 5 (sixOf (r .result)) (omega (arith, lane .before .before .loop-test .taken, loop .before .pre .2)) (omega arith) (loop .loop .inv .1) (loop .loop .inv .2) (lane .lane-at .ensures) (r .ensures) (c .put-six .ensures) in
+    let more = lane-more 5 (sixOf (r .result)) (omega (arith, lane .before .before .loop-test .taken, loop .before .pre .2)) (omega arith) (loop .loop .inv .1) (loop .loop .inv .2) (lane-samples (loop .loop .t) (loop .loop .l) (lane .lane-at .ensures)) (r .ensures) (c .put-six .ensures) in
     (omega arith, more .0, more .1)
 
 returns : tie.Need-returns Inv-loop μ-loop
