@@ -27,7 +27,7 @@ fn any_large(keys: &[u8; 16]) -> bool
 }
 
 // p7 of the first position is at the place at; taps are step apart and positions along, one of which is 1. Taps that no key reads are
-// not loaded, and not stored.
+// not loaded, and taps that did not change not stored.
 pub fn filter_chunk_unchecked(
     samples: &mut [u8],
     at: usize,
@@ -48,6 +48,6 @@ pub fn filter_chunk_unchecked(
     load_lanes_unchecked(&mut t, samples, at, step, along, n, all);
     let changed = filter_byte_lanes_unchecked(&mut t, keys, sharpness);
     if changed.some {
-        store_lanes_unchecked(samples, at, step, along, n, &mut t, all);
+        store_lanes_unchecked(samples, at, step, along, n, &mut t, changed.outer);
     }
 }

@@ -32,7 +32,7 @@ returns-2 c =
     let large = loaded .before .before .before in
     let start = large .before .before .before in
     let a = start .args in
-    chunk-run (a .at) (a .step) (a .along) (a .n) (a .sharpness) (now (a .keys)) _ (large .any-large .ensures) (now (a .samples)) _ _ (start .pre .0) (loaded .load-lanes-unchecked .ensures .0) (filtered .filter-byte-lanes-unchecked .ensures .lanes) _ (c .before .before .store-lanes-unchecked .ensures)
+    chunk-run (a .at) (a .step) (a .along) (a .n) (a .sharpness) (now (a .keys)) _ (large .any-large .ensures) (now (a .samples)) _ _ _ (start .pre .0) (loaded .load-lanes-unchecked .ensures .0) (filtered .filter-byte-lanes-unchecked .ensures) _ (c .before .before .store-lanes-unchecked .ensures)
 
 returns-3 : tie.Need-returns-3
 returns-3 c =
@@ -41,7 +41,7 @@ returns-3 c =
     let large = loaded .before .before .before in
     let start = large .before .before .before in
     let a = start .args in
-    chunk-kept (a .at) (a .step) (a .along) (a .n) (a .sharpness) (now (a .keys)) _ (large .any-large .ensures) (now (a .samples)) _ _ (start .pre .0) (loaded .load-lanes-unchecked .ensures .0) (filtered .filter-byte-lanes-unchecked .ensures .lanes) (filtered .filter-byte-lanes-unchecked .ensures .none (c .if2 .left))
+    chunk-kept (a .at) (a .step) (a .along) (a .n) (a .sharpness) (now (a .keys)) _ (large .any-large .ensures) (now (a .samples)) _ _ _ (start .pre .0) (loaded .load-lanes-unchecked .ensures .0) (filtered .filter-byte-lanes-unchecked .ensures) (c .if2 .left)
 
 pub filter-chunk-unchecked-spec : {M : Type 1} → statement M
 filter-chunk-unchecked-spec =
