@@ -1,7 +1,7 @@
 // A chunk of at most 16 positions of an edge in a lent list of bytes: loaded as lanes, filtered by their keys, and stored.
 ghost use mathlib.Core.Path.{_≡_};
 ghost use mathlib.Core.Logic.{_⊎_};
-ghost use Prim.Native.Nat.{_+_, _*_, _≤_};
+ghost use Prim.Native.Nat.{_≤_};
 ghost use lib.ListN.{getD};
 ghost use Rattle.byte_lanes.specs.ByteLanes.{Keys};
 ghost use Rattle.lane_runs.specs.Spread.{SpacedRun};

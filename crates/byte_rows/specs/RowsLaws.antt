@@ -1,7 +1,7 @@
 -- Laws of the rows that are moved between a list and a table.
 -- Assumes nothing.
-use mathlib.Core.Path.{_≡_, refl, sym, ap, _∙_}
-use mathlib.Core.Bool.{Bool, true}
+use mathlib.Core.Path.{_≡_, refl, ap, _∙_}
+use mathlib.Core.Bool.{true}
 use mathlib.Core.List.{List}
 use Prim.Native.Nat.{ℕ, zero, suc, _+_, _-_, _*_, _≤_, _<_}
 use native.Mathlib.Nat.{mul-le-mul-right}
@@ -29,26 +29,31 @@ row-through writes sample n w r few e =
 
 -- ---- rows
 
--- a row of the table ends within it
-pub row-room : {width at apart n lo m : ℕ} {w : List ℕ} → Rows width at apart n lo m w → (j : ℕ) → j < lo + m → width * j + n ≤ 256
-row-room rows j h =
+-- row j of those moved ends within the table and within the list
+pub record RowFits (width at apart n lo j : ℕ) (w : List ℕ) : Type 0 where
+  pub small : lo + j < 16
+  pub short : n ≤ 16
+  pub room : width * (lo + j) + n ≤ 256
+  pub lent : at + (lo + j) * apart + n ≤ length w
+
+pub row-fits : {width at apart n lo m : ℕ} {w : List ℕ} → Rows width at apart n lo m w → (j : ℕ) → j < m → RowFits width at apart n lo j w
+row-fits {lo = lo} rows j h =
     let narrow = rows .narrow in
     let fit = rows .fit in
     let few = rows .few in
-    omega (arith, mul-le-mul-right j narrow)
+    record { small = omega arith; short = omega arith; room = omega (arith, mul-le-mul-right (lo + j) narrow); lent = rows .lent (lo + j) (omega arith) (omega arith) }
 
 -- a row more
 pub row-loaded : (width at apart n lo m j : ℕ) (w t u r : List ℕ) → Rows width at apart n lo m w → length t ≡ 256 → j < m → Spread 0 width 1 n lo j (λ i k. getD w (placeOf at apart 1 i k) 0) t u
     → r ≡ scatter (λ i. true) (λ i. width * (lo + j) + i) (λ i. getD w (at + (lo + j) * apart + i) 0) n u → Spread 0 width 1 n lo (j + 1) (λ i k. getD w (placeOf at apart 1 i k) 0) t r
 row-loaded width at apart n lo m j w t u r rows long h inv made =
-    let few = rows .few in
-    let room = row-room rows (lo + j) (omega arith) in
+    let fits = row-fits rows j h in
     spread-tap 0 width 1 n lo j _ t n u r (λ i. width * (lo + j) + i) (λ i. getD w (at + (lo + j) * apart + i) 0) (spaced-down 0 width n (rows .fit)) (omega arith) (omega arith) (λ i b. omega arith) (λ i b. omega arith) (λ i b. ap (λ (x : ℕ). getD w x 0) (omega arith)) inv made
 
 pub row-stored : (width at apart n lo m j : ℕ) (w t u r : List ℕ) → Rows width at apart n lo m w → PlacesApart at apart 1 n (lo + m) → j < m → Spread at apart 1 n lo j (λ i k. getD t (width * k + i) 0) w u
     → r ≡ scatter (λ i. true) (λ i. at + (lo + j) * apart + i) (λ i. getD t (width * (lo + j) + i) 0) n u → Spread at apart 1 n lo (j + 1) (λ i k. getD t (width * k + i) 0) w r
 row-stored width at apart n lo m j w t u r rows apart′ h inv made =
-    let lent = rows .lent (lo + j) (omega arith) (omega arith) in
+    let fits = row-fits rows j h in
     spread-tap at apart 1 n lo j (λ i k. getD t (width * k + i) 0) w n u r (λ i. at + (lo + j) * apart + i) (λ i. getD t (width * (lo + j) + i) 0) apart′ (omega arith) (omega arith) (λ i b. omega arith) (λ i b. omega arith) (λ i b. refl) inv made
 
 -- ---- the rows of a run

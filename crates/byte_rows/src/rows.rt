@@ -1,6 +1,6 @@
 // Rows of n samples, apart from each other in the lent list and width in the table: m of them from the row lo on.
 ghost use mathlib.Core.Path.{_≡_};
-ghost use Prim.Native.Nat.{_+_, _*_, _≤_};
+ghost use Prim.Native.Nat.{_+_, _*_};
 ghost use lib.ListN.{length, getD};
 ghost use Rattle.lane_runs.specs.Spread.{placeOf, PlacesApart, Spread};
 ghost use Rattle.byte_rows.specs.Rows.{Rows};

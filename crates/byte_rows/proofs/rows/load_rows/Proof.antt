@@ -1,12 +1,12 @@
 use borrow.Author.Needs.{needs}
 use mathlib.Core.Path.{_≡_}
-use Prim.Native.Nat.{_+_, _-_, _*_, _≤_}
+use Prim.Native.Nat.{_-_, _≤_}
 use native.Mathlib.Omega.{arith}
-use lib.ListN.{length, getD}
+use lib.ListN.{getD}
 use denote.Ref.{now}
 use Rattle.lane_runs.specs.Spread.{placeOf, Spread}
 use Rattle.lane_runs.specs.SpreadLaws.{spread-no-taps}
-use Rattle.byte_rows.specs.RowsLaws.{row-room, row-loaded}
+use Rattle.byte_rows.specs.RowsLaws.{RowFits, row-fits, row-loaded}
 use Rattle.byte_rows.proofs.rows.load_rows.Statement.{statement}
 use Rattle.byte_rows.proofs.rows.load_rows.Tie as tie
 
@@ -22,27 +22,11 @@ loop-holds c =
     let a = c .before .args in
     (omega arith, spread-no-taps 0 (a .width) 1 (a .n) (a .lo) (a .m) (λ i k. getD (now (a .samples)) (placeOf (a .at) (a .apart) 1 i k) 0) (now (a .t)) (a .n))
 
--- the row is lent, and the table has room for it
-lent : (c : tie.In-loop Inv-loop μ-loop) → let a = c .before .before .before .args in a .at + (a .lo + c .before .loop .j) * a .apart + a .n ≤ length (a .samples .now)
-lent c =
-    let a = c .before .before .before .args in
-    c .before .before .before .pre .0 .lent (a .lo + c .before .loop .j) (omega arith) (omega (arith, c .loop-test .taken))
-
-room : (c : tie.In-loop Inv-loop μ-loop) → let a = c .before .before .before .args in a .width * (a .lo + c .before .loop .j) + a .n ≤ 256
-room c =
-    let a = c .before .before .before .args in
-    row-room (c .before .before .before .pre .0) (a .lo + c .before .loop .j) (omega (arith, c .loop-test .taken))
-
-few : (c : tie.In-loop Inv-loop μ-loop) → let a = c .before .before .before .args in (a .lo + c .before .loop .j ≤ 16) × (a .n ≤ 16)
-few c =
-    let rows = c .before .before .before .pre .0 in
-    let most = rows .few in
-    let narrow = rows .narrow in
-    let fit = rows .fit in
-    (omega (arith, c .loop-test .taken), omega arith)
+fits : (c : tie.In-loop Inv-loop μ-loop) → let a = c .before .before .before .args in RowFits (a .width) (a .at) (a .apart) (a .n) (a .lo) (c .before .loop .j) (now (a .samples))
+fits c = row-fits (c .before .before .before .pre .0) (c .before .loop .j) (c .loop-test .taken)
 
 load-row-requires : tie.Need-load-row-requires Inv-loop μ-loop
-load-row-requires c κs = (few (c .before) .1, room (c .before), lent (c .before))
+load-row-requires c κs = let row = fits (c .before) in (row .short, row .room, row .lent)
 
 loop-again : tie.Need-loop-again Inv-loop μ-loop
 loop-again c =
@@ -59,4 +43,4 @@ returns c =
 pub load-rows-spec : {M : Type 1} → statement M
 load-rows-spec =
     tie.close
-    (tie.spec Inv-loop μ-loop loop-holds (λ c. omega (arith, few (c .before))) (λ c. omega (arith, room (c .before))) (λ c. omega (arith, few (c .before))) (λ c. omega (arith, lent (c .before))) (λ c. omega (arith, lent (c .before))) load-row-requires (search needs) (search needs) loop-again returns)
+    (tie.spec Inv-loop μ-loop loop-holds (λ c. omega (arith, fits (c .before))) (λ c. omega (arith, fits (c .before))) (λ c. omega (arith, fits (c .before))) (λ c. omega (arith, fits (c .before))) (λ c. omega (arith, fits (c .before))) load-row-requires (search needs) (search needs) loop-again returns)

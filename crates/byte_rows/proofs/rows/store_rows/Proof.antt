@@ -4,9 +4,9 @@ use Prim.Native.Nat.{_+_, _-_, _*_, _≤_}
 use native.Mathlib.Omega.{arith}
 use lib.ListN.{length, getD}
 use denote.Ref.{now}
-use Rattle.lane_runs.specs.Spread.{placeOf, Spread}
+use Rattle.lane_runs.specs.Spread.{Spread}
 use Rattle.lane_runs.specs.SpreadLaws.{spread-no-taps}
-use Rattle.byte_rows.specs.RowsLaws.{row-room, row-stored}
+use Rattle.byte_rows.specs.RowsLaws.{RowFits, row-fits, row-stored}
 use Rattle.byte_rows.proofs.rows.store_rows.Statement.{statement}
 use Rattle.byte_rows.proofs.rows.store_rows.Tie as tie
 
@@ -22,29 +22,14 @@ loop-holds c =
     let a = c .before .args in
     (omega arith, refl, spread-no-taps (a .at) (a .apart) 1 (a .n) (a .lo) (a .m) (λ i k. getD (now (a .t)) (a .width * k + i) 0) (now (a .samples)) (a .n))
 
--- the row is lent, and the table has room for it
-lent : (c : tie.In-loop Inv-loop μ-loop) → let a = c .before .before .before .args in a .at + (a .lo + c .before .loop .j) * a .apart + a .n ≤ length (a .samples .now)
-lent c =
-    let a = c .before .before .before .args in
-    c .before .before .before .pre .0 .lent (a .lo + c .before .loop .j) (omega arith) (omega (arith, c .loop-test .taken))
-
-room : (c : tie.In-loop Inv-loop μ-loop) → let a = c .before .before .before .args in a .width * (a .lo + c .before .loop .j) + a .n ≤ 256
-room c =
-    let a = c .before .before .before .args in
-    row-room (c .before .before .before .pre .0) (a .lo + c .before .loop .j) (omega (arith, c .loop-test .taken))
-
-few : (c : tie.In-loop Inv-loop μ-loop) → let a = c .before .before .before .args in (a .lo + c .before .loop .j ≤ 16) × (a .n ≤ 16)
-few c =
-    let rows = c .before .before .before .pre .0 in
-    let most = rows .few in
-    let narrow = rows .narrow in
-    let fit = rows .fit in
-    (omega (arith, c .loop-test .taken), omega arith)
+fits : (c : tie.In-loop Inv-loop μ-loop) → let a = c .before .before .before .args in RowFits (a .width) (a .at) (a .apart) (a .n) (a .lo) (c .before .loop .j) (now (a .samples))
+fits c = row-fits (c .before .before .before .pre .0) (c .before .loop .j) (c .loop-test .taken)
 
 store-row-requires : tie.Need-store-row-requires Inv-loop μ-loop
 store-row-requires c κs =
     let long = c .before .before .loop .inv .1 in
-    (few (c .before) .1, room (c .before), omega (arith, lent (c .before)))
+    let row = fits (c .before) in
+    (row .short, row .room, omega arith)
 
 loop-again : tie.Need-loop-again Inv-loop μ-loop
 loop-again c =
@@ -65,4 +50,4 @@ returns c =
 pub store-rows-spec : {M : Type 1} → statement M
 store-rows-spec =
     tie.close
-    (tie.spec Inv-loop μ-loop loop-holds (λ c. omega (arith, few (c .before))) (λ c. omega (arith, lent (c .before))) (λ c. omega (arith, lent (c .before))) (λ c. omega (arith, few (c .before))) (λ c. omega (arith, room (c .before))) store-row-requires (search needs) (search needs) loop-again (search needs) returns)
+    (tie.spec Inv-loop μ-loop loop-holds (λ c. omega (arith, fits (c .before))) (λ c. omega (arith, fits (c .before))) (λ c. omega (arith, fits (c .before))) (λ c. omega (arith, fits (c .before))) (λ c. omega (arith, fits (c .before))) store-row-requires (search needs) (search needs) loop-again (search needs) returns)
