@@ -71,7 +71,18 @@ fn filter_at(
     if 0 < n {
         filter_inside(samples, g, pass, x.0, y.0, n, sharpness, keys);
     }
-    filter_border(samples, g, pass, x.0, y.0, sharpness, limits, keys, n, 16 - n);
+    filter_border(
+        samples,
+        g,
+        pass,
+        x.0,
+        y.0,
+        sharpness,
+        limits,
+        keys,
+        n,
+        16 - n,
+    );
 }
 
 // Chunk m of an edge.
