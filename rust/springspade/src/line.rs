@@ -17,8 +17,8 @@ pub fn line(
     accepted(c::springspade_line(taps, bit_depth, filter_size, limit, blimit, thresh))
 }
 
-/// [`line`] over the first 16 of these bytes; those behind them are left. `bit_depth` is 8. Refused with 2, 7 (fewer than
-/// 16 bytes) or 15.
+/// [`line`](fn@line) over the first 16 of these bytes; those behind them are left. `bit_depth` is 8. Refused with 2,
+/// 7 (fewer than 16 bytes) or 15.
 ///
 /// ```
 /// let mut taps = [100, 100, 100, 100, 100, 100, 100, 100, 104, 104, 104, 104, 104, 104, 104, 104];

@@ -26,8 +26,7 @@ impl Superblocks {
     /// Runs every pass through our entry, which must accept it.
     pub fn new(row: &Row, columns: Range<usize>, windows: [Window; 3], before: Planes) -> Self {
         let &Row { frame, base, .. } = row;
-        let mut words = vec![0; row.cells()];
-        row.ours(&mut words).accepted().unwrap();
+        let words = row.words();
         let cells = rust::with_frame(row, |frame| hook_row(frame, base as u32));
         let after = before.clone();
         let mut all = Superblocks { frame, base, columns, windows, words, cells, before, after };
