@@ -36,8 +36,13 @@ impl Pass {
         Pass::in_frame(random, frame)
     }
 
-    /// The same in this frame.
-    pub fn in_frame(random: &mut Random, frame: Frame) -> Pass {
+    /// The same over bytes: depth 8, and every lent sample is a byte.
+    pub fn random_bytes(random: &mut Random) -> Pass {
+        let frame = Frame { bit_depth: 8, ..frame(random) };
+        Pass::in_frame(random, frame).of_bytes()
+    }
+
+    fn in_frame(random: &mut Random, frame: Frame) -> Pass {
         let row = superblock(random, frame.mi_rows);
         // Of so many cells one has no level.
         let absent = random.one_of(&[0, 0, 0, 0, 0, 0, 0, 2, 20, 100]);
@@ -140,8 +145,7 @@ pub fn subsampling(frame: &Frame, plane: u8) -> (u8, u8) {
     if plane == 0 { (0, 0) } else { (frame.sub_x, frame.sub_y) }
 }
 
-/// A random frame that is not refused.
-pub fn frame(random: &mut Random) -> Frame {
+fn frame(random: &mut Random) -> Frame {
     Frame {
         sharpness: random.one_of(&[0, 0, 0, 1, 2, 3, 4, 5, 6, 7]),
         bit_depth: random.one_of(&[8, 10, 12]),

@@ -1,13 +1,12 @@
 //! The pass over bytes against the Rust's and against ours over u16, from cells and from mode info.
 #![cfg(oracle)]
 
+use differential::passes::Pass;
 use differential::passes::compared::{compare, compare_all, count};
-use differential::passes::{Pass, frame};
 use differential::random::Random;
 use differential::returned::Returned;
 use differential::rows::Row;
 use differential::{rust, say};
-use springspade::Frame;
 
 /// What ours returns and leaves over bytes, with samples and cells at any address. It is what the pass over u16 returns
 /// and leaves, and where it is accepted the pass without its tests leaves the same.
@@ -27,8 +26,7 @@ fn by_bytes(random: &mut Random, pass: &Pass) -> (Returned, Vec<u16>) {
 #[test]
 fn passes_over_bytes_equal() {
     say(&compare_all("passes over bytes", count(), 63, |random| {
-        let frame = Frame { bit_depth: 8, ..frame(random) };
-        let pass = Pass::in_frame(random, frame).of_bytes();
+        let pass = Pass::random_bytes(random);
         compare(&pass, by_bytes(random, &pass), rust::pass(&pass))
     }));
 }

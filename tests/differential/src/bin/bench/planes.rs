@@ -7,6 +7,14 @@ use std::array;
 
 pub type Planes = [Vec<u16>; 3];
 
+pub type BytePlanes = [Vec<u8>; 3];
+
+/// Planes of depth 8 as bytes.
+pub fn bytes(planes: &Planes) -> BytePlanes {
+    let byte = |&sample: &u16| u8::try_from(sample).unwrap();
+    planes.each_ref().map(|plane| plane.iter().map(byte).collect())
+}
+
 /// The superblock row of a plane from this row of cells on, the eight rows above it, and so many below.
 pub fn window(frame: &Frame, base: usize, below: usize, plane: u8) -> Window {
     let (sub_x, sub_y) = subsampling(frame, plane);
