@@ -1,4 +1,4 @@
-//! The line over bytes against the Rust's lane kernel, which takes the same samples as u16, line by line.
+//! The line over bytes against the Rust's lane kernel, over bytes and over the same samples as u16, line by line.
 #![cfg(oracle)]
 
 use differential::lines::{Line, compare_all, taps};
@@ -17,12 +17,9 @@ fn compare(random: &mut Random, case: &Line) {
     memory[line.clone()].copy_from_slice(&case.taps.map(|tap| tap as u8));
     let lent = &mut memory[first..line.end + behind - 1];
     assert_eq!(line_bytes(lent, case.depth, case.size, case.strength), Ok(()), "{case:?}");
-    for (way, expected) in rust::line(case).iter().enumerate() {
-        assert!(
-            memory[line.clone()].iter().copied().map(u16::from).eq(*expected),
-            "{way}, {case:?}"
-        );
-    }
+    let after: [u8; 16] = memory[line.clone()].try_into().unwrap();
+    assert_eq!([after; 4], rust::line_over(case), "{case:?}");
+    assert_eq!([after.map(u16::from); 4], rust::line(case), "{case:?}");
     memory[line].fill(GUARD[0]);
     assert_eq!(memory, GUARD, "{case:?}");
 }

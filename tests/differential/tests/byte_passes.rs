@@ -27,7 +27,10 @@ fn by_bytes(random: &mut Random, pass: &Pass) -> (Returned, Vec<u16>) {
 fn passes_over_bytes_equal() {
     say(&compare_all("passes over bytes", count(), 63, |random| {
         let pass = Pass::random_bytes(random);
-        compare(&pass, by_bytes(random, &pass), rust::pass(&pass))
+        let expected = rust::pass(&pass);
+        // The Rust over bytes gives the same as over u16.
+        assert!(expected == rust::pass_bytes(&pass), "{}", pass.call());
+        compare(&pass, by_bytes(random, &pass), expected)
     }));
 }
 

@@ -1,7 +1,7 @@
 //! All passes over a superblock row, and over one superblock, with eight rows above.
 
 use crate::blocks::mixed;
-use crate::planes::{Planes, planes, window};
+use crate::planes::{planes, window};
 use crate::row::row;
 use crate::superblocks::{Superblocks, Way};
 use differential::random::Random;
@@ -48,6 +48,7 @@ pub fn rows() {
         timed("bytes, work", &ROW, 8, kind, Superblocks::unchecked_bytes);
     }
     timed("bytes, work", &INSIDE, 8, "mixed", Superblocks::unchecked_bytes);
+    both_over_bytes(&INSIDE, "mixed");
     deciding("work", &ROW, Superblocks::unchecked);
     deciding("bytes, work", &ROW, Superblocks::unchecked_bytes);
     println!(
@@ -71,21 +72,37 @@ pub fn rows() {
 /// A row of the table for one way of ours.
 fn timed<S: Copy + Into<u16>>(what: &str, shape: &Shape, depth: u8, kind: &str, way: Way<S>) {
     let name = format!("{what}, {}, depth {depth}, {kind}", shape.name);
-    beside_rust(&name, shape, &superblocks(shape, depth, kind), way);
+    let passes = superblocks(shape, depth, kind);
+    beside_rust(&name, shape, &passes, way, Superblocks::rust::<u16>);
 }
 
 /// The same at depth 8 where every level is 0: all is decided, and nothing is filtered.
 fn deciding<S: Copy + Into<u16>>(what: &str, shape: &Shape, way: Way<S>) {
     let name = format!("{what}, {}, level 0: deciding", shape.name);
-    beside_rust(&name, shape, &at_levels(shape, 8, "mixed", |_| 0), way);
+    let passes = at_levels(shape, 8, "mixed", |_| 0);
+    beside_rust(&name, shape, &passes, way, Superblocks::rust::<u16>);
 }
 
-fn beside_rust<S: Copy + Into<u16>>(name: &str, shape: &Shape, passes: &Superblocks, way: Way<S>) {
-    let mut ours = [const { Vec::new() }; 3];
-    let mut rust = Planes::default();
-    row(name, RUNS, luma(shape), || way(passes, &mut ours), || passes.rust(&mut rust));
-    passes.compare(name, &ours);
-    passes.compare(name, &rust);
+/// The work where the Rust filters bytes too; elsewhere it filters the same samples as u16.
+fn both_over_bytes(shape: &Shape, kind: &str) {
+    let name = format!("bytes, work, {}, {kind}, both", shape.name);
+    let passes = superblocks(shape, 8, kind);
+    beside_rust(&name, shape, &passes, Superblocks::unchecked_bytes, Superblocks::rust::<u8>);
+}
+
+fn beside_rust<S: Copy + Into<u16>, R: Copy + Into<u16>>(
+    name: &str,
+    shape: &Shape,
+    passes: &Superblocks,
+    ours: Way<S>,
+    rust: Way<R>,
+) {
+    let mut our_planes = [const { Vec::new() }; 3];
+    let mut rust_planes = [const { Vec::new() }; 3];
+    let run_ours = || ours(passes, &mut our_planes);
+    row(name, RUNS, luma(shape), run_ours, || rust(passes, &mut rust_planes));
+    passes.compare(name, &our_planes);
+    passes.compare(name, &rust_planes);
 }
 
 fn say_positions(shape: &Shape) {

@@ -2,17 +2,18 @@
 
 use differential::passes::subsampling;
 use differential::random::Random;
+use oracle::frame_buf::Px;
 use springspade::{Frame, Window};
 use std::array;
 
 pub type Planes = [Vec<u16>; 3];
 
-pub type BytePlanes = [Vec<u8>; 3];
-
-/// Planes of depth 8 as bytes.
-pub fn bytes(planes: &Planes) -> BytePlanes {
-    let byte = |&sample: &u16| u8::try_from(sample).unwrap();
-    planes.each_ref().map(|plane| plane.iter().map(byte).collect())
+/// Writes the samples into planes of any type.
+pub fn fill<S: Px>(planes: &mut [Vec<S>; 3], from: &Planes) {
+    for (plane, from) in planes.iter_mut().zip(from) {
+        plane.clear();
+        plane.extend(from.iter().map(|&sample| S::put(sample.into())));
+    }
 }
 
 /// The superblock row of a plane from this row of cells on, the eight rows above it, and so many below.

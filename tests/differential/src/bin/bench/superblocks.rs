@@ -1,12 +1,13 @@
 //! All passes over superblocks side by side: by our entry, by our pass without its tests, over u16 and over bytes, and
 //! by the Rust.
 
-use crate::planes::{BytePlanes, Planes, bytes};
+use crate::planes::{Planes, fill};
 use crate::row::nanoseconds;
 use differential::passes::Pass;
 use differential::positions::{decided, is_inside, taps};
 use differential::rows::Row;
 use differential::rust;
+use oracle::frame_buf::Px;
 use oracle::superblock_loop_filter::{HookRow, hook_row};
 use springspade::{CellRecord, Frame, Superblock, Window, cell, cell_bytes};
 use std::{hint::black_box, ops::Range};
@@ -63,7 +64,7 @@ impl Superblocks {
 
     /// Nanoseconds of all passes by our entry, into these planes.
     pub fn checked(&self, planes: &mut Planes) -> f64 {
-        planes.clone_from(&self.before);
+        fill(planes, &self.before);
         nanoseconds(|| {
             self.each_pass(|at, window| {
                 let samples = &mut planes[at.plane as usize];
@@ -74,7 +75,7 @@ impl Superblocks {
 
     /// The same by our entry over cell records.
     pub fn by_records(&self, planes: &mut Planes) -> f64 {
-        planes.clone_from(&self.before);
+        fill(planes, &self.before);
         let records: Vec<CellRecord> = self.words.iter().map(|&word| cell(word).into()).collect();
         nanoseconds(|| {
             self.each_pass(|at, window| {
@@ -87,7 +88,7 @@ impl Superblocks {
     /// The same without the tests.
     #[expect(unsafe_code, reason = "the entry accepted the same passes on the same samples")]
     pub fn unchecked(&self, planes: &mut Planes) -> f64 {
-        planes.clone_from(&self.before);
+        fill(planes, &self.before);
         nanoseconds(|| {
             self.each_pass(|at, window| {
                 let samples = &mut planes[at.plane as usize];
@@ -101,8 +102,8 @@ impl Superblocks {
     }
 
     /// By our entry over bytes.
-    pub fn checked_bytes(&self, planes: &mut BytePlanes) -> f64 {
-        *planes = bytes(&self.before);
+    pub fn checked_bytes(&self, planes: &mut [Vec<u8>; 3]) -> f64 {
+        fill(planes, &self.before);
         let cells = cell_bytes(&self.words);
         nanoseconds(|| {
             self.each_pass(|at, window| {
@@ -117,8 +118,8 @@ impl Superblocks {
         unsafe_code,
         reason = "the entry over bytes accepts what that over u16 accepted at depth 8"
     )]
-    pub fn unchecked_bytes(&self, planes: &mut BytePlanes) -> f64 {
-        *planes = bytes(&self.before);
+    pub fn unchecked_bytes(&self, planes: &mut [Vec<u8>; 3]) -> f64 {
+        fill(planes, &self.before);
         assert_eq!(self.frame.bit_depth, 8);
         nanoseconds(|| {
             self.each_pass(|at, window| {
@@ -137,9 +138,9 @@ impl Superblocks {
         })
     }
 
-    /// The same by the Rust.
-    pub fn rust(&self, planes: &mut Planes) -> f64 {
-        planes.clone_from(&self.before);
+    /// The same by the Rust, over samples of any type.
+    pub fn rust<S: Px>(&self, planes: &mut [Vec<S>; 3]) -> f64 {
+        fill(planes, &self.before);
         nanoseconds(|| {
             self.each_pass(|at, &Window { width, height, stride, y_origin }| {
                 let samples = &mut planes[at.plane as usize];
