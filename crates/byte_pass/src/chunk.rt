@@ -13,7 +13,7 @@ ghost use Rattle.window.specs.Stencil.{inTurn};
 ghost use Rattle.window.specs.WindowLaws.{Lent};
 ghost use Rattle.byte_lanes.specs.ByteLanes.{Keys};
 use crate::border::filter_border;
-use crate::chunk_keys::any_filtered;
+use crate::chunk_keys::chunk_filters;
 use crate::chunk_keys::chunk_keys;
 use byte_chunks::filter_chunk_unchecked;
 use geometry::Pass;
@@ -101,8 +101,8 @@ pub(crate) fn filter_chunk(
     requires { ⌜ Able g s sharpness 8 (now samples) × Keyed (now outer) (now inner) × (edge < edgeCount s pass) × (m < edgeLen s pass / 16) × Limits (now limits) ⌝ }
     ensures { λ r. ⌜ now (samples .exit) ≡ chunk g s pass sharpness 8 (now (outer .entry)) (now (inner .entry)) edge (16 * m) 16 (now (samples .entry)) ⌝ }
 {
-    let keys = chunk_keys(outer, inner, s, pass, edge, m);
-    if any_filtered(&keys) {
+    if chunk_filters(outer, inner, s, pass, edge, m) {
+        let keys = chunk_keys(outer, inner, s, pass, edge, m);
         let x = plane_x_unchecked(s, pass, edge, 16 * m);
         let y = plane_y_unchecked(s, pass, edge, 16 * m);
         filter_at(samples, g, pass, x, y, sharpness, limits, &keys);
