@@ -195,6 +195,16 @@ SPRINGSPADE_MUST_USE SpringspadeRefusal springspade_line(
     uint8_t blimit,
     uint8_t thresh);
 
+/* As springspade_line over bytes: the first 16 of taps, the bytes behind them are left. bit_depth: 8.
+   Refusals: 2 bit_depth not 8; 7 fewer than 16 bytes; 15 filter_size above 2. */
+SPRINGSPADE_MUST_USE SpringspadeRefusal springspade_line_bytes(
+    uint8_t *taps, size_t taps_len,
+    uint8_t bit_depth,
+    uint8_t filter_size,
+    uint8_t limit,
+    uint8_t blimit,
+    uint8_t thresh);
+
 /* The facts of position i on an edge of the superblock at mi_row, mi_col. mi_cols, mi_rows, mi_row, mi_col count 8 luma
    samples. sub_x, sub_y, tx_size are those of the plane: sub_x, sub_y are 0 in plane 0. pass: 0 vertical, 1 horizontal.
    Pass 0 has edge below 16 >> sub_x and i below 64 >> sub_y, pass 1 has edge below 16 >> sub_y and i below 64 >> sub_x.
@@ -277,6 +287,47 @@ void springspade_pass_unchecked(
     size_t y_origin,
     uint8_t sharpness,
     uint8_t bit_depth,
+    uint8_t sub_x,
+    uint8_t sub_y,
+    size_t mi_cols,
+    size_t mi_rows,
+    size_t mi_row,
+    size_t mi_col,
+    uint8_t plane,
+    uint8_t pass);
+
+/* As springspade_pass over bytes. bit_depth: 8. cells: the words of springspade_row as bytes, four to a cell, the most
+   significant first. Refusals: those of springspade_pass; 2 bit_depth not 8; 7 fewer than four bytes for each cell of
+   the row; never 13. */
+SPRINGSPADE_MUST_USE SpringspadeRefusal springspade_pass_bytes(
+    uint8_t *samples, size_t samples_len,
+    const uint8_t *cells, size_t cells_len,
+    size_t width,
+    size_t height,
+    size_t stride,
+    size_t y_origin,
+    uint8_t sharpness,
+    uint8_t bit_depth,
+    uint8_t sub_x,
+    uint8_t sub_y,
+    size_t mi_cols,
+    size_t mi_rows,
+    size_t mi_row,
+    size_t mi_col,
+    uint8_t plane,
+    uint8_t pass);
+
+/* As springspade_pass_bytes, without its tests and without an answer, and with cells as springspade_row packs them. The
+   caller must hand over only what springspade_pass_bytes would accept with these words as bytes; else memory outside
+   samples and cells may be read or written. */
+void springspade_pass_bytes_unchecked(
+    uint8_t *samples, size_t samples_len,
+    const uint32_t *cells, size_t cells_len,
+    size_t width,
+    size_t height,
+    size_t stride,
+    size_t y_origin,
+    uint8_t sharpness,
     uint8_t sub_x,
     uint8_t sub_y,
     size_t mi_cols,

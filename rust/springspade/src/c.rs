@@ -202,6 +202,19 @@ unsafe extern "C" {
         thresh: u8,
     ) -> Refusal;
 
+    /// As springspade_line over bytes: the first 16 of taps, the bytes behind them are left. bit_depth: 8.
+    /// Refusals: 2 bit_depth not 8; 7 fewer than 16 bytes; 15 filter_size above 2.
+    #[must_use]
+    pub unsafe fn springspade_line_bytes(
+        taps: *mut u8,
+        taps_len: usize,
+        bit_depth: u8,
+        filter_size: u8,
+        limit: u8,
+        blimit: u8,
+        thresh: u8,
+    ) -> Refusal;
+
     /// The facts of position i on an edge of the superblock at mi_row, mi_col. mi_cols, mi_rows, mi_row, mi_col count 8 luma
     /// samples. sub_x, sub_y, tx_size are those of the plane: sub_x, sub_y are 0 in plane 0. pass: 0 vertical, 1 horizontal.
     /// Pass 0 has edge below 16 >> sub_x and i below 64 >> sub_y, pass 1 has edge below 16 >> sub_y and i below 64 >> sub_x.
@@ -302,6 +315,54 @@ unsafe extern "C" {
         y_origin: usize,
         sharpness: u8,
         bit_depth: u8,
+        sub_x: u8,
+        sub_y: u8,
+        mi_cols: usize,
+        mi_rows: usize,
+        mi_row: usize,
+        mi_col: usize,
+        plane: u8,
+        pass: u8,
+    );
+
+    /// As springspade_pass over bytes. bit_depth: 8. cells: the words of springspade_row as bytes, four to a cell, the most
+    /// significant first. Refusals: those of springspade_pass; 2 bit_depth not 8; 7 fewer than four bytes for each cell of
+    /// the row; never 13.
+    #[must_use]
+    pub unsafe fn springspade_pass_bytes(
+        samples: *mut u8,
+        samples_len: usize,
+        cells: *const u8,
+        cells_len: usize,
+        width: usize,
+        height: usize,
+        stride: usize,
+        y_origin: usize,
+        sharpness: u8,
+        bit_depth: u8,
+        sub_x: u8,
+        sub_y: u8,
+        mi_cols: usize,
+        mi_rows: usize,
+        mi_row: usize,
+        mi_col: usize,
+        plane: u8,
+        pass: u8,
+    ) -> Refusal;
+
+    /// As springspade_pass_bytes, without its tests and without an answer, and with cells as springspade_row packs them. The
+    /// caller must hand over only what springspade_pass_bytes would accept with these words as bytes; else memory outside
+    /// samples and cells may be read or written.
+    pub unsafe fn springspade_pass_bytes_unchecked(
+        samples: *mut u8,
+        samples_len: usize,
+        cells: *const u32,
+        cells_len: usize,
+        width: usize,
+        height: usize,
+        stride: usize,
+        y_origin: usize,
+        sharpness: u8,
         sub_x: u8,
         sub_y: u8,
         mi_cols: usize,

@@ -13,8 +13,10 @@
 //! `mi_row`, `mi_col`. A superblock is 8 by 8 cells. A plane is 8 * `mi_cols` by 8 * `mi_rows` samples, each halved where the
 //! plane is subsampled, also where the picture that is shown is smaller.
 //!
-//! Nothing is asked of a caller but by [`pass_unchecked`]. A call that is refused gives [`Refused`] and leaves all that
-//! was lent as it was. No call keeps anything, so calls may run on several threads.
+//! Planes of 8 bits may also be bytes: [`line_bytes`] and [`pass_bytes`].
+//!
+//! Nothing is asked of a caller but by [`pass_unchecked`] and [`pass_bytes_unchecked`]. A call that is refused gives
+//! [`Refused`] and leaves all that was lent as it was. No call keeps anything, so calls may run on several threads.
 //!
 //! ```
 //! let strength = springspade::strength(32, 0)?;
@@ -24,6 +26,7 @@
 //! # Ok::<(), springspade::Refused>(())
 //! ```
 
+mod byte_pass;
 pub mod c;
 mod cell;
 mod edge;
@@ -36,10 +39,11 @@ mod row;
 mod sheet;
 mod strength;
 
-pub use cell::{Cell, cell};
+pub use byte_pass::{pass_bytes, pass_bytes_unchecked};
+pub use cell::{Cell, cell, cell_bytes};
 pub use edge::{EdgeFacts, Position, edge};
 pub use levels::{LoopFilter, Segmentation, level_table};
-pub use line::line;
+pub use line::{line, line_bytes};
 pub use pass::{Superblock, Window, pass, pass_unchecked};
 pub use records::{CellRecord, PlaneWindow, pass_records, pass_window, row_records};
 pub use refused::Refused;

@@ -16,3 +16,34 @@ pub fn line(
     let Strength { limit, blimit, thresh } = strength;
     accepted(c::springspade_line(taps, bit_depth, filter_size, limit, blimit, thresh))
 }
+
+/// [`line`](fn@line) over the first 16 of these bytes; those behind them are left. `bit_depth` is 8. Refused with 2,
+/// 7 (fewer than 16 bytes) or 15.
+///
+/// ```
+/// let mut taps = [100, 100, 100, 100, 100, 100, 100, 100, 104, 104, 104, 104, 104, 104, 104, 104];
+/// springspade::line_bytes(&mut taps, 8, 1, springspade::strength(32, 0)?)?;
+/// assert_eq!(taps[5..11], [101, 101, 102, 103, 103, 104]);
+/// # Ok::<(), springspade::Refused>(())
+/// ```
+#[inline]
+pub fn line_bytes(
+    taps: &mut [u8],
+    bit_depth: u8,
+    filter_size: u8,
+    strength: Strength,
+) -> Result<(), Refused> {
+    let Strength { limit, blimit, thresh } = strength;
+    // SAFETY: the pointer goes with the length of its own slice.
+    accepted(unsafe {
+        c::springspade_line_bytes(
+            taps.as_mut_ptr(),
+            taps.len(),
+            bit_depth,
+            filter_size,
+            limit,
+            blimit,
+            thresh,
+        )
+    })
+}

@@ -19,7 +19,7 @@ impl Refused {
     pub fn meaning(&self) -> &'static str {
         match self.number {
             1 => "sharpness above 7",
-            2 => "depth other than 8, 10, 12",
+            2 => "depth other than 8, 10, 12; over bytes other than 8",
             3 => "a subsampling flag above 1",
             4 => "mi_cols or mi_rows 0 or above 8,192",
             5 => "mi_row no multiple of 8, or not below mi_rows",

@@ -38,7 +38,8 @@ fn arguments(border: &Border, function: &Function) -> Vec<Variable> {
 }
 
 /// Arguments of one name have one type, and two of them stand in one order, whatever the function. A list that one
-/// function fills and another reads counts as two: what is made comes last.
+/// function fills and another reads counts as two: what is made comes last. A function over bytes may lend any list as
+/// bytes.
 #[test]
 fn arguments_have_one_type_and_one_order() {
     let border = Border::read(&root());
@@ -47,8 +48,10 @@ fn arguments_have_one_type_and_one_order() {
         let arguments = arguments(&border, function);
         for (k, Variable { name, kind, .. }) in arguments.iter().enumerate() {
             let element = kind.element().to_string();
-            let known = types.entry(name.clone()).or_insert(element.clone());
-            assert_eq!(*known, element, "{name} of {}", function.name);
+            if !function.name.contains("_bytes") || element != "u8" {
+                let known = types.entry(name.clone()).or_insert(element.clone());
+                assert_eq!(*known, element, "{name} of {}", function.name);
+            }
             let meaning = |a: &Variable| (a.name.clone(), a.kind.is_written());
             for later in &arguments[k + 1..] {
                 let (first, second) = (meaning(&arguments[k]), meaning(later));

@@ -5,6 +5,7 @@ pub mod cells;
 pub mod edges;
 pub mod libvpx;
 pub mod lines;
+pub mod many;
 pub mod passes;
 pub mod positions;
 pub mod quiet;

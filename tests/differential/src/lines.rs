@@ -1,5 +1,6 @@
 //! Lines of the line filter: random ones, and what the filter does to each.
 
+use crate::many::{count, summed};
 use crate::random::Random;
 use springspade::Strength;
 
@@ -29,6 +30,11 @@ impl Line {
     /// A random line that is not refused.
     pub fn random(random: &mut Random) -> Line {
         let depth = random.one_of(&[8, 10, 12]);
+        Line::at_depth(random, depth)
+    }
+
+    /// The same at this depth.
+    pub fn at_depth(random: &mut Random, depth: u8) -> Line {
         // Fourteen samples are filtered at size 2 alone.
         let size = random.one_of(&[0, 1, 2, 2]);
         let strength = strength(random);
@@ -58,6 +64,18 @@ impl Line {
             Arm::Fourteen
         }
     }
+}
+
+/// Compares random lines, as many as are asked for, each in the way that makes it. Says how many of `what` are equal.
+pub fn compare_all(what: &str, seed: u64, one: fn(&mut Random) -> Line) -> String {
+    let lines = count("SPRINGSPADE_LINES", 1_000_000);
+    let arms = summed(lines, seed, |random| {
+        let mut arms = [0; 4];
+        arms[one(random).arm() as usize] = 1;
+        arms
+    });
+    assert!(arms.iter().all(|&count| count >= lines / 10), "an arm is rare: {arms:?}");
+    format!("{lines} {what} equal the Rust's; none, narrow, six, fourteen: {arms:?}")
 }
 
 /// That of a level and sharpness, or any bytes.

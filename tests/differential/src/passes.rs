@@ -1,5 +1,7 @@
 //! Arguments of a pass, random ones among them.
 
+mod bytes;
+pub mod compared;
 pub mod reached;
 mod records;
 mod samples;
@@ -31,6 +33,16 @@ impl Pass {
     /// A random pass, refused for nothing but a cell without level.
     pub fn random(random: &mut Random) -> Pass {
         let frame = frame(random);
+        Pass::in_frame(random, frame)
+    }
+
+    /// The same over bytes: depth 8, and every lent sample is a byte.
+    pub fn random_bytes(random: &mut Random) -> Pass {
+        let frame = Frame { bit_depth: 8, ..frame(random) };
+        Pass::in_frame(random, frame).of_bytes()
+    }
+
+    fn in_frame(random: &mut Random, frame: Frame) -> Pass {
         let row = superblock(random, frame.mi_rows);
         // Of so many cells one has no level.
         let absent = random.one_of(&[0, 0, 0, 0, 0, 0, 0, 2, 20, 100]);
@@ -88,11 +100,21 @@ impl Pass {
 
     /// Runs on a copy of what is lent, and gives its samples after it. Those beside them must be left.
     fn guarded<T>(&self, run: impl FnOnce(&mut [u16]) -> T) -> (T, Vec<u16>) {
-        let mut memory = [&GUARD[..], &self.samples, &GUARD].concat();
-        let lent = GUARD.len()..GUARD.len() + self.samples.len();
+        self.between(&GUARD, &self.samples, run)
+    }
+
+    /// Runs on a copy of these samples between guards, and gives them after it. The guards must be left.
+    fn between<S: Copy + PartialEq, T>(
+        &self,
+        guard: &[S],
+        samples: &[S],
+        run: impl FnOnce(&mut [S]) -> T,
+    ) -> (T, Vec<S>) {
+        let mut memory = [guard, samples, guard].concat();
+        let lent = guard.len()..guard.len() + samples.len();
         let returned = run(&mut memory[lent.clone()]);
-        assert_eq!(memory[..lent.start], GUARD, "before the samples, {}", self.call());
-        assert_eq!(memory[lent.end..], GUARD, "behind the samples, {}", self.call());
+        assert!(memory[..lent.start] == *guard, "before the samples, {}", self.call());
+        assert!(memory[lent.end..] == *guard, "behind the samples, {}", self.call());
         (returned, memory[lent].to_vec())
     }
 

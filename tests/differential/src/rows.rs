@@ -195,4 +195,11 @@ impl Row {
     pub fn ours(&self, words: &mut [u32]) -> Returned {
         row(&self.info(), &self.levels, &self.frame, self.base, words).into()
     }
+
+    /// Ours, which must be accepted, into words of its own.
+    pub fn words(&self) -> Vec<u32> {
+        let mut words = vec![0; self.cells()];
+        self.ours(&mut words).accepted().unwrap();
+        words
+    }
 }

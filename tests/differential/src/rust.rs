@@ -3,11 +3,12 @@
 mod pass;
 mod runs;
 
-pub use pass::{cells, over, pass, pass_lists};
+pub use pass::{cells, over, pass, pass_bytes, pass_lists};
 pub use runs::runs;
 
 use crate::{cases::Case, lines::Line, rows::Row};
 use oracle::filter_size::filter_size;
+use oracle::frame_buf::Px;
 use oracle::header::{LoopFilterParams, SegmentationParams};
 use oracle::loop_filter::{LvlLookup, loop_filter_frame_init, resolve_lf_deltas};
 use oracle::superblock_filter::{SuperblockFilterMi, superblock_filter_edge};
@@ -52,9 +53,14 @@ pub fn level_table(case: &Case) -> [u8; 64] {
 
 /// One line in the lanes that the Rust takes for its depth, then in 32-bit lanes, by each gather.
 pub fn line(line: &Line) -> [[u16; 16]; 4] {
+    line_over(line)
+}
+
+/// The same over samples of another type.
+pub fn line_over<S: Px>(line: &Line) -> [[S; 16]; 4] {
     let Strength { limit, blimit, thresh } = line.strength;
     [hook_line, hook_line_h, hook_line_i32, hook_line_i32_h].map(|way| {
-        let mut taps = line.taps;
+        let mut taps = line.taps.map(|tap| S::put(tap.into()));
         way(&mut taps, limit, blimit, thresh, line.size, line.depth);
         taps
     })

@@ -4,7 +4,7 @@
 use differential::lines::Line;
 use differential::{cases::*, rust};
 use oracle::superblock_loop_filter::hook_strength;
-use springspade::{Refused, level_table, line, strength};
+use springspade::{Refused, level_table, line, line_bytes, strength};
 
 /// Entries 0 and 1 of segment 0, intra for mode types 0 and 1: ours, which are the Rust's.
 fn intra(case: &Case) -> [u8; 2] {
@@ -78,4 +78,16 @@ fn line_of_sample_256() {
     let mut after = [256; 16];
     after[6..10].fill(255);
     assert_eq!(line_refused(8, 0, [256; 16], 13), after);
+}
+
+#[test]
+fn line_of_bytes_at_depth_10() {
+    let case = Line { depth: 10, size: 0, strength: strength(0, 0).unwrap(), taps: STEP_2 };
+    let before = STEP_2.map(|tap| tap as u8);
+    let mut ours = before;
+    let refused = line_bytes(&mut ours, 10, 0, case.strength);
+    assert_eq!(refused, Err(Refused { number: 2, place: 0 }));
+    assert_eq!(ours, before);
+    let after = [0, 0, 0, 0, 0, 0, 1, 1, 1, 1, 2, 2, 2, 2, 2, 2];
+    assert_eq!(rust::line_over::<u8>(&case), [after; 4]);
 }

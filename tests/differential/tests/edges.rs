@@ -2,7 +2,7 @@
 #![cfg(oracle)]
 
 use differential::returned::{Returned, edge_returned};
-use differential::{edges, random::Random, rust, say};
+use differential::{edges, many::count, random::Random, rust, say};
 use springspade::{EdgeFacts, Position};
 
 const NAMES: [&str; 10] = [
@@ -23,10 +23,7 @@ type Counts = [usize; NAMES.len()];
 
 #[test]
 fn edges_equal() {
-    let edges: usize = match std::env::var("SPRINGSPADE_EDGES") {
-        Ok(text) => text.parse().expect("SPRINGSPADE_EDGES is a number"),
-        Err(_) => 4_000_000,
-    };
+    let edges = count("SPRINGSPADE_EDGES", 4_000_000);
     let half = edges / 2;
     let (a, b) = std::thread::scope(|scope| {
         let a = scope.spawn(move || compare(half, 10));

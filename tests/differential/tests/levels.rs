@@ -2,7 +2,7 @@
 #![cfg(oracle)]
 
 use differential::returned::{Returned, level_table_into};
-use differential::{cases::Case, random::Random, rust, say};
+use differential::{cases::Case, many::count, random::Random, rust, say};
 use oracle::adaptive_filter_strength::mode_to_mode_type;
 use oracle::superblock_loop_filter::hook_strength;
 use springspade::{Strength, level_table, mode_type, strength};
@@ -30,10 +30,7 @@ type Kinds = [[usize; 4]; 3];
 
 #[test]
 fn level_tables_equal() {
-    let tables: usize = match std::env::var("SPRINGSPADE_TABLES") {
-        Ok(text) => text.parse().expect("SPRINGSPADE_TABLES is a number"),
-        Err(_) => 1_000_000,
-    };
+    let tables = count("SPRINGSPADE_TABLES", 1_000_000);
     let half = tables / 2;
     let (a, b) = std::thread::scope(|scope| {
         let a = scope.spawn(move || compare(half, 2));

@@ -1,7 +1,7 @@
 //! Ours against what libvpx computes.
 
 use differential::{libvpx, say};
-use springspade::{Strength, cell, edge, level_table, line, row, strength};
+use springspade::{Strength, cell, edge, level_table, line, line_bytes, row, strength};
 
 #[test]
 fn strengths_equal() {
@@ -47,6 +47,11 @@ fn lines_equal() {
         let mut taps = case.taps;
         assert_eq!(line(&mut taps, case.depth, case.size, case.strength), Ok(()), "line {i}");
         assert_eq!(taps, *after, "line {i}, {case:?}");
+        if case.depth == 8 {
+            let mut bytes = case.taps.map(|tap| tap as u8);
+            assert_eq!(line_bytes(&mut bytes, 8, case.size, case.strength), Ok(()), "line {i}");
+            assert_eq!(bytes.map(u16::from), *after, "line {i}, {case:?}");
+        }
         arms[case.arm() as usize] += 1;
     }
     say(&format!("{} lines equal libvpx's; none, narrow, six, fourteen: {arms:?}", lines.len()));

@@ -71,6 +71,15 @@ fn depth_9() {
     assert_eq!(after, FILTERED);
 }
 
+#[test]
+fn bytes_at_depth_10() {
+    let pass = with(|pass| pass.frame.bit_depth = 10);
+    let (returned, after) = pass.ours_by_bytes(&pass.cell_bytes(), 0);
+    assert_eq!(returned, Returned { number: 2, place: 0 });
+    assert_eq!(after, pass.samples);
+    assert_eq!(rust::pass_bytes(&pass).unwrap(), FILTERED);
+}
+
 /// In plane 0 as 0. In plane 1 the superblock has four edges, 16 luma samples apart: none is at x = 8.
 #[test]
 fn subsampling_2() {

@@ -4,7 +4,7 @@
 use differential::cells::unpacked;
 use differential::returned::Returned;
 use differential::rows::{BAD, Block, MODES, REFERENCES, Row, SEGMENTS};
-use differential::{random::Random, rust, say};
+use differential::{many::count, random::Random, rust, say};
 use springspade::{Cell, Frame, cell};
 use std::array;
 
@@ -87,10 +87,7 @@ type Counts = [usize; 4];
 
 #[test]
 fn rows_equal() {
-    let rows: usize = match std::env::var("SPRINGSPADE_ROWS") {
-        Ok(text) => text.parse().expect("SPRINGSPADE_ROWS is a number"),
-        Err(_) => 20_000,
-    };
+    let rows = count("SPRINGSPADE_ROWS", 20_000);
     let half = rows / 2;
     let (a, b) = std::thread::scope(|scope| {
         let a = scope.spawn(move || compare_random(half, 8));

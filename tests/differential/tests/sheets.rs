@@ -2,10 +2,10 @@
 //! Rust's pass calls its kernel for, where the Rust is at hand.
 
 use differential::random::Random;
-use differential::say;
 use differential::sheets::damaged;
 use differential::sheets::expected::expected;
 use differential::sheets::{Sheet, ours, shown};
+use differential::{many, say};
 use std::collections::BTreeMap;
 
 /// Texts by their first words, and among them runs.
@@ -62,10 +62,7 @@ fn compare_all(sheets: usize, seed: u64, one: fn(&mut Random) -> Vec<u8>) -> Cou
 }
 
 fn count() -> usize {
-    match std::env::var("SPRINGSPADE_SHEETS") {
-        Ok(text) => text.parse().expect("SPRINGSPADE_SHEETS is a number"),
-        Err(_) => 20_000,
-    }
+    many::count("SPRINGSPADE_SHEETS", 20_000)
 }
 
 fn say_counts(what: &str, counts: &Counts) {

@@ -1,9 +1,10 @@
 //! A whole frame through row and pass, ours and the Rust's, from its own settings and mode info on.
 
 use super::{Frame, plane_size};
+use crate::passes::subsampling;
 use crate::rows::{Blocks, Row};
 use recipe::filter_frame;
-use springspade::{Superblock, level_table};
+use springspade::{Superblock, Window, cell_bytes, level_table, pass_bytes};
 
 #[allow(dead_code, reason = "the recipe is a program")]
 #[path = "../../../../rust/springspade/examples/frame.rs"]
@@ -15,10 +16,7 @@ pub type Planes = [Vec<u16>; 3];
 pub fn words(frame: &Frame, base: usize) -> Vec<u32> {
     let case = &frame.case;
     let levels = level_table(&case.loop_filter(), &case.segmentation()).unwrap();
-    let part = Row { levels, ..frame.row(base) };
-    let mut words = vec![0; part.cells()];
-    part.ours(&mut words).accepted().unwrap();
-    words
+    Row { levels, ..frame.row(base) }.words()
 }
 
 /// The planes that ours gives, by the recipe that users are shown.
@@ -32,12 +30,26 @@ pub fn ours(frame: &Frame) -> Planes {
     planes
 }
 
+/// The planes that ours gives over bytes, for a frame of depth 8.
+pub fn ours_over_bytes(frame: &Frame) -> Planes {
+    let byte = |&sample: &u16| u8::try_from(sample).unwrap();
+    let mut planes = frame.before.each_ref().map(|plane| plane.iter().map(byte).collect());
+    for base in bases(frame) {
+        let cells = cell_bytes(&words(frame, base));
+        for at in passes(frame, base) {
+            let (samples, window) = lent(frame, &mut planes, &at);
+            let filtered = pass_bytes(samples, &window, &cells, &frame.frame, &at);
+            assert_eq!(filtered, Ok(()), "{}, {at:?}", frame.name);
+        }
+    }
+    planes.map(|plane: Vec<u8>| plane.into_iter().map(u16::from).collect())
+}
+
 /// The planes that the Rust gives, by its own level table, cells and pass.
 #[cfg(oracle)]
 pub fn by_the_rust(frame: &Frame) -> Planes {
     use crate::rust;
     use oracle::superblock_loop_filter::hook_row;
-    use springspade::Window;
 
     let levels = rust::level_table(&frame.case);
     let mut planes = frame.before.clone();
@@ -73,15 +85,11 @@ pub fn passes(frame: &Frame, base: usize) -> impl Iterator<Item = Superblock> {
 }
 
 /// The plane's rows that a pass is lent: its superblock row and the eight rows above.
-#[cfg(oracle)]
-fn lent<'a>(
+fn lent<'a, S>(
     frame: &Frame,
-    planes: &'a mut Planes,
+    planes: &'a mut [Vec<S>; 3],
     at: &Superblock,
-) -> (&'a mut [u16], springspade::Window) {
-    use crate::passes::subsampling;
-    use springspade::Window;
-
+) -> (&'a mut [S], Window) {
     let (width, rows) = plane_size(&frame.frame, at.plane);
     let (_, sub_y) = subsampling(&frame.frame, at.plane);
     let top = (8 * at.mi_row) >> sub_y;

@@ -40,9 +40,7 @@ fn word(random: &mut Random) -> u32 {
 fn made(random: &mut Random, frame: Frame, base: usize) -> Vec<u32> {
     let mut row = Row { frame, base, levels: [0; 64], blocks: Default::default() };
     row.blocks.extend((0..row.cells()).map(|_| Block::random(random)));
-    let mut words = vec![0; row.cells()];
-    row.ours(&mut words).accepted().unwrap();
-    words
+    row.words()
 }
 
 /// Gives the cells one of three levels each, and to one in `absent` of them none.

@@ -4,6 +4,7 @@ use crate::cells::unpacked;
 use crate::passes::Pass;
 use crate::quiet::panic_of;
 use crate::rows::Row;
+use oracle::frame_buf::Px;
 use oracle::superblock_loop_filter::{HookCell, HookRow, hook_pass_lists};
 use springspade::{Cell, Frame, Superblock, Window};
 
@@ -13,12 +14,18 @@ pub fn pass(pass: &Pass) -> Option<Vec<u16>> {
     levelled(move || over(pass, &cells))
 }
 
-/// The same from mode info. The pass is one over the cells of this row.
+/// The same over the low bytes of the samples.
+pub fn pass_bytes(pass: &Pass) -> Option<Vec<u16>> {
+    let cells = cells(pass);
+    levelled(move || over_samples::<u8>(pass, &cells))
+}
+
+/// The same as over cells, from mode info. The pass is one over the cells of this row.
 pub fn pass_lists(row: &Row, pass: &Pass) -> Option<Vec<u16>> {
     let Window { width, height, stride, y_origin } = pass.window;
     let Superblock { mi_row: base, mi_col: col, plane, pass: number } = pass.at;
     levelled(|| {
-        let mut samples = lent(pass);
+        let mut samples = lent::<u16>(pass);
         super::with_frame(row, |frame| {
             let (base, col) = (base as u32, col as u32);
             hook_pass_lists(
@@ -41,9 +48,13 @@ pub fn pass_lists(row: &Row, pass: &Pass) -> Option<Vec<u16>> {
 
 /// The pass over these cells, whatever it does with them.
 pub fn over(pass: &Pass, cells: &HookRow) -> Vec<u16> {
+    over_samples::<u16>(pass, cells)
+}
+
+fn over_samples<S: Px>(pass: &Pass, cells: &HookRow) -> Vec<u16> {
     let Window { width, height, stride, y_origin } = pass.window;
     let Superblock { mi_row: row, mi_col: col, plane, pass: number } = pass.at;
-    let mut samples = lent(pass);
+    let mut samples = lent::<S>(pass);
     cells.pass(
         &mut samples,
         stride,
@@ -77,19 +88,22 @@ fn hook_cell(cell: Cell) -> HookCell {
     (masks, tx, uvtx, skipped, if present { level } else { 255 })
 }
 
+/// Behind what is lent.
+const BEHIND: i32 = 0xbe;
+
 /// The Rust asks for whole rows, also the last.
-fn lent(pass: &Pass) -> Vec<u16> {
-    let mut samples = pass.samples.clone();
+fn lent<S: Px>(pass: &Pass) -> Vec<S> {
+    let mut samples: Vec<S> = pass.samples.iter().map(|&sample| S::put(sample.into())).collect();
     let whole = pass.window.stride * pass.window.height;
-    samples.resize(whole.max(samples.len()), 0xbeef);
+    samples.resize(whole.max(samples.len()), S::put(BEHIND));
     samples
 }
 
 /// What was lent to ours; behind it nothing may be written.
-fn returned(pass: &Pass, mut samples: Vec<u16>) -> Vec<u16> {
+fn returned<S: Px>(pass: &Pass, mut samples: Vec<S>) -> Vec<u16> {
     let behind = samples.split_off(pass.samples.len());
-    assert!(behind.iter().all(|&sample| sample == 0xbeef), "{}", pass.call());
-    samples
+    assert!(behind.iter().all(|sample| sample.get() == BEHIND), "{}", pass.call());
+    samples.into_iter().map(|sample| sample.get() as u16).collect()
 }
 
 /// None where the Rust panics for a cell without level.

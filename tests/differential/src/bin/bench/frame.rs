@@ -2,7 +2,7 @@
 
 use crate::planes::Planes;
 use crate::row::row;
-use crate::superblocks::Superblocks;
+use crate::superblocks::{Superblocks, Way};
 use differential::libvpx::{self, Frame, plane_size};
 use differential::passes::subsampling;
 use springspade::Window;
@@ -15,24 +15,29 @@ pub fn rows() {
         return;
     };
     let rows = superblock_rows(&frame);
-    let mut ours: Vec<Planes> = vec![Planes::default(); rows.len()];
-    let mut rust = ours.clone();
-    let name = format!("work, real frame, depth {}", frame.frame.bit_depth);
+    let depth = frame.frame.bit_depth;
     let luma = 64 * frame.frame.mi_cols * frame.frame.mi_rows;
-    let all = |run: fn(&Superblocks, &mut Planes) -> f64, planes: &mut [Planes]| {
-        rows.iter().zip(planes).map(|(row, planes)| run(row, planes)).sum()
-    };
-    row(
-        &name,
-        RUNS,
-        luma,
-        || all(Superblocks::unchecked, &mut ours),
-        || all(Superblocks::rust, &mut rust),
-    );
-    for ((row, ours), rust) in rows.iter().zip(&ours).zip(&rust) {
-        row.compare(&name, ours);
-        row.compare(&name, rust);
+    let name = format!("real frame, depth {depth}");
+    beside_rust(&format!("work, {name}"), &rows, luma, Superblocks::unchecked);
+    if depth == 8 {
+        beside_rust(&format!("bytes, work, {name}"), &rows, luma, Superblocks::unchecked_bytes);
     }
+}
+
+/// A row of the table for one way of ours.
+fn beside_rust<S: Copy + Into<u16>>(name: &str, rows: &[Superblocks], luma: usize, way: Way<S>) {
+    let mut ours = vec![[const { Vec::new() }; 3]; rows.len()];
+    let mut rust = vec![Planes::default(); rows.len()];
+    row(name, RUNS, luma, || all(rows, way, &mut ours), || all(rows, Superblocks::rust, &mut rust));
+    for ((row, ours), rust) in rows.iter().zip(&ours).zip(&rust) {
+        row.compare(name, ours);
+        row.compare(name, rust);
+    }
+}
+
+/// Nanoseconds of all superblock rows.
+fn all<S>(rows: &[Superblocks], way: Way<S>, planes: &mut [[Vec<S>; 3]]) -> f64 {
+    rows.iter().zip(planes).map(|(row, planes)| way(row, planes)).sum()
 }
 
 /// Each with the rows above that it changes and those below that it reads, as they are before the filter.

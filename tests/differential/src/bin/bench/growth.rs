@@ -1,6 +1,6 @@
 //! How the time of a superblock's passes grows with the positions that are filtered, as CSV.
 
-use crate::planes::{planes, window};
+use crate::planes::{Planes, planes, window};
 use crate::row::least;
 use crate::superblocks::Superblocks;
 use differential::random::Random;
@@ -64,7 +64,7 @@ fn point(quarters: [Kind; 4]) {
     let (positions, at_border) = passes.positions();
     assert_eq!(at_border, 0, "positions at the window's border");
     let positions = positions / SUPERBLOCKS;
-    let (mut ours, mut rust) = Default::default();
+    let (mut ours, mut rust) = <(Planes, Planes)>::default();
     let (a, b) = least(RUNS, || passes.unchecked(&mut ours), || passes.rust(&mut rust));
     passes.compare("ours", &ours);
     passes.compare("the Rust", &rust);

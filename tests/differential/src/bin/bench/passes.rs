@@ -3,7 +3,7 @@
 use crate::blocks::mixed;
 use crate::planes::{planes, window};
 use crate::row::row;
-use crate::superblocks::Superblocks;
+use crate::superblocks::{Superblocks, Way};
 use differential::random::Random;
 use differential::rows::Row;
 use springspade::Frame;
@@ -31,68 +31,78 @@ const ONE: Shape = Shape { name: "superblock", mi_cols: 8, below: 0 };
 
 const DEPTHS: [u8; 3] = [8, 10, 12];
 
+const KINDS: [&str; 3] = ["smooth", "noisy", "mixed"];
+
 pub fn rows() {
     println!("ns of work and entry are per luma sample, all planes and both passes");
     [ROW, INSIDE, ONE].iter().for_each(say_positions);
     for depth in DEPTHS {
-        for kind in ["smooth", "noisy", "mixed"] {
-            work(&ROW, depth, kind);
+        for kind in KINDS {
+            timed("work", &ROW, depth, kind, Superblocks::unchecked);
         }
     }
     for depth in DEPTHS {
-        work(&INSIDE, depth, "mixed");
+        timed("work", &INSIDE, depth, "mixed", Superblocks::unchecked);
     }
-    deciding(&ROW);
+    for kind in KINDS {
+        timed("bytes, work", &ROW, 8, kind, Superblocks::unchecked_bytes);
+    }
+    timed("bytes, work", &INSIDE, 8, "mixed", Superblocks::unchecked_bytes);
+    both_over_bytes(&INSIDE, "mixed");
+    deciding("work", &ROW, Superblocks::unchecked);
+    deciding("bytes, work", &ROW, Superblocks::unchecked_bytes);
     println!(
         "the entry tests all samples of its window at each call, so those of a row many times"
     );
     for shape in [ROW, ONE] {
         for depth in DEPTHS {
-            entry(&shape, depth, "mixed");
+            timed("entry", &shape, depth, "mixed", Superblocks::checked);
         }
+    }
+    println!("over bytes it tests the cells of the row alone");
+    for shape in [ROW, ONE] {
+        timed("bytes, entry", &shape, 8, "mixed", Superblocks::checked_bytes);
     }
     println!("by cell records the entry also packs the cells of the row at each call");
     for shape in [ROW, ONE] {
-        by_records(&shape, 8, "mixed");
+        timed("records", &shape, 8, "mixed", Superblocks::by_records);
     }
 }
 
-/// A row of the table for the pass without its tests.
-fn work(shape: &Shape, depth: u8, kind: &str) {
-    let name = format!("work, {}, depth {depth}, {kind}", shape.name);
+/// A row of the table for one way of ours.
+fn timed<S: Copy + Into<u16>>(what: &str, shape: &Shape, depth: u8, kind: &str, way: Way<S>) {
+    let name = format!("{what}, {}, depth {depth}, {kind}", shape.name);
     let passes = superblocks(shape, depth, kind);
-    let (mut ours, mut rust) = Default::default();
-    row(&name, RUNS, luma(shape), || passes.unchecked(&mut ours), || passes.rust(&mut rust));
-    passes.compare(&name, &ours);
-    passes.compare(&name, &rust);
+    beside_rust(&name, shape, &passes, way, Superblocks::rust::<u16>);
 }
 
-/// The same where every level is 0: all is decided, and nothing is filtered.
-fn deciding(shape: &Shape) {
-    let name = format!("work, {}, level 0: deciding", shape.name);
+/// The same at depth 8 where every level is 0: all is decided, and nothing is filtered.
+fn deciding<S: Copy + Into<u16>>(what: &str, shape: &Shape, way: Way<S>) {
+    let name = format!("{what}, {}, level 0: deciding", shape.name);
     let passes = at_levels(shape, 8, "mixed", |_| 0);
-    let (mut ours, mut rust) = Default::default();
-    row(&name, RUNS, luma(shape), || passes.unchecked(&mut ours), || passes.rust(&mut rust));
+    beside_rust(&name, shape, &passes, way, Superblocks::rust::<u16>);
 }
 
-/// The same for the entry.
-fn entry(shape: &Shape, depth: u8, kind: &str) {
-    let name = format!("entry, {}, depth {depth}, {kind}", shape.name);
-    let passes = superblocks(shape, depth, kind);
-    let (mut ours, mut rust) = Default::default();
-    row(&name, RUNS, luma(shape), || passes.checked(&mut ours), || passes.rust(&mut rust));
-    passes.compare(&name, &ours);
-    passes.compare(&name, &rust);
+/// The work where the Rust filters bytes too; elsewhere it filters the same samples as u16.
+fn both_over_bytes(shape: &Shape, kind: &str) {
+    let name = format!("bytes, work, {}, {kind}, both", shape.name);
+    let passes = superblocks(shape, 8, kind);
+    beside_rust(&name, shape, &passes, Superblocks::unchecked_bytes, Superblocks::rust::<u8>);
 }
 
-/// The same for the entry over cell records.
-fn by_records(shape: &Shape, depth: u8, kind: &str) {
-    let name = format!("records, {}, depth {depth}, {kind}", shape.name);
-    let passes = superblocks(shape, depth, kind);
-    let (mut ours, mut rust) = Default::default();
-    row(&name, RUNS, luma(shape), || passes.by_records(&mut ours), || passes.rust(&mut rust));
-    passes.compare(&name, &ours);
-    passes.compare(&name, &rust);
+fn beside_rust<S: Copy + Into<u16>, R: Copy + Into<u16>>(
+    name: &str,
+    shape: &Shape,
+    passes: &Superblocks,
+    ours: Way<S>,
+    rust: Way<R>,
+) {
+    let mut our_planes = [const { Vec::new() }; 3];
+    let mut rust_planes = [const { Vec::new() }; 3];
+    let run_ours = || ours(passes, &mut our_planes);
+    row(name, RUNS, luma(shape), run_ours, || rust(passes, &mut rust_planes));
+    passes.compare(name, &our_planes);
+    passes.compare(name, &rust_planes);
 }
 
 fn say_positions(shape: &Shape) {

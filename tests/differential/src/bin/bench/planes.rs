@@ -2,10 +2,19 @@
 
 use differential::passes::subsampling;
 use differential::random::Random;
+use oracle::frame_buf::Px;
 use springspade::{Frame, Window};
 use std::array;
 
 pub type Planes = [Vec<u16>; 3];
+
+/// Writes the samples into planes of any type.
+pub fn fill<S: Px>(planes: &mut [Vec<S>; 3], from: &Planes) {
+    for (plane, from) in planes.iter_mut().zip(from) {
+        plane.clear();
+        plane.extend(from.iter().map(|&sample| S::put(sample.into())));
+    }
+}
 
 /// The superblock row of a plane from this row of cells on, the eight rows above it, and so many below.
 pub fn window(frame: &Frame, base: usize, below: usize, plane: u8) -> Window {

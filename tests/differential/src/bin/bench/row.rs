@@ -3,7 +3,7 @@
 use std::time::Instant;
 
 pub fn head() {
-    println!("{:<40} {:>9} {:>9} {:>6}", "case", "ours ns", "Rust ns", "ratio");
+    println!("{:<44} {:>9} {:>9} {:>6}", "case", "ours ns", "Rust ns", "ratio");
 }
 
 /// The least time of a call in many runs, ours and the Rust's in turn. A run gives its nanoseconds.
@@ -16,13 +16,13 @@ pub fn row(
 ) {
     let (a, b) = least(runs, ours, rust);
     let (a, b) = (a / calls as f64, b / calls as f64);
-    println!("{name:<40} {a:>9.2} {b:>9.2} {:>6.2}", a / b);
+    println!("{name:<44} {a:>9.2} {b:>9.2} {:>6.2}", a / b);
 }
 
 /// A row for what the Rust does not do. Its numbers are small.
 pub fn alone(name: &str, runs: usize, calls: usize, ours: impl FnMut() -> f64) {
     let (a, _) = least(runs, ours, || f64::MAX);
-    println!("{name:<40} {:>9.3} {:>9} {:>6}", a / calls as f64, "-", "-");
+    println!("{name:<44} {:>9.3} {:>9} {:>6}", a / calls as f64, "-", "-");
 }
 
 /// The least nanoseconds of ours and of the Rust's, run in turn.

@@ -1,13 +1,15 @@
-//! All passes over superblocks side by side: by our entry, by our pass without its tests, and by the Rust.
+//! All passes over superblocks side by side: by our entry, by our pass without its tests, over u16 and over bytes, and
+//! by the Rust.
 
-use crate::planes::Planes;
+use crate::planes::{Planes, fill};
 use crate::row::nanoseconds;
 use differential::passes::Pass;
 use differential::positions::{decided, is_inside, taps};
 use differential::rows::Row;
 use differential::rust;
+use oracle::frame_buf::Px;
 use oracle::superblock_loop_filter::{HookRow, hook_row};
-use springspade::{CellRecord, Frame, Superblock, Window, cell};
+use springspade::{CellRecord, Frame, Superblock, Window, cell, cell_bytes};
 use std::{hint::black_box, ops::Range};
 
 pub struct Superblocks {
@@ -22,12 +24,14 @@ pub struct Superblocks {
     after: Planes,
 }
 
+/// One way through all passes, into these planes, and its nanoseconds.
+pub type Way<S> = fn(&Superblocks, &mut [Vec<S>; 3]) -> f64;
+
 impl Superblocks {
     /// Runs every pass through our entry, which must accept it.
     pub fn new(row: &Row, columns: Range<usize>, windows: [Window; 3], before: Planes) -> Self {
         let &Row { frame, base, .. } = row;
-        let mut words = vec![0; row.cells()];
-        row.ours(&mut words).accepted().unwrap();
+        let words = row.words();
         let cells = rust::with_frame(row, |frame| hook_row(frame, base as u32));
         let after = before.clone();
         let mut all = Superblocks { frame, base, columns, windows, words, cells, before, after };
@@ -60,7 +64,7 @@ impl Superblocks {
 
     /// Nanoseconds of all passes by our entry, into these planes.
     pub fn checked(&self, planes: &mut Planes) -> f64 {
-        planes.clone_from(&self.before);
+        fill(planes, &self.before);
         nanoseconds(|| {
             self.each_pass(|at, window| {
                 let samples = &mut planes[at.plane as usize];
@@ -71,7 +75,7 @@ impl Superblocks {
 
     /// The same by our entry over cell records.
     pub fn by_records(&self, planes: &mut Planes) -> f64 {
-        planes.clone_from(&self.before);
+        fill(planes, &self.before);
         let records: Vec<CellRecord> = self.words.iter().map(|&word| cell(word).into()).collect();
         nanoseconds(|| {
             self.each_pass(|at, window| {
@@ -84,7 +88,7 @@ impl Superblocks {
     /// The same without the tests.
     #[expect(unsafe_code, reason = "the entry accepted the same passes on the same samples")]
     pub fn unchecked(&self, planes: &mut Planes) -> f64 {
-        planes.clone_from(&self.before);
+        fill(planes, &self.before);
         nanoseconds(|| {
             self.each_pass(|at, window| {
                 let samples = &mut planes[at.plane as usize];
@@ -97,9 +101,46 @@ impl Superblocks {
         })
     }
 
-    /// The same by the Rust.
-    pub fn rust(&self, planes: &mut Planes) -> f64 {
-        planes.clone_from(&self.before);
+    /// By our entry over bytes.
+    pub fn checked_bytes(&self, planes: &mut [Vec<u8>; 3]) -> f64 {
+        fill(planes, &self.before);
+        let cells = cell_bytes(&self.words);
+        nanoseconds(|| {
+            self.each_pass(|at, window| {
+                let samples = &mut planes[at.plane as usize];
+                springspade::pass_bytes(samples, window, &cells, &self.frame, at).unwrap();
+            });
+        })
+    }
+
+    /// The same without the tests.
+    #[expect(
+        unsafe_code,
+        reason = "the entry over bytes accepts what that over u16 accepted at depth 8"
+    )]
+    pub fn unchecked_bytes(&self, planes: &mut [Vec<u8>; 3]) -> f64 {
+        fill(planes, &self.before);
+        assert_eq!(self.frame.bit_depth, 8);
+        nanoseconds(|| {
+            self.each_pass(|at, window| {
+                let samples = &mut planes[at.plane as usize];
+                // SAFETY: as in `unchecked`; at depth 8 the entry over bytes accepts what the one over u16 does.
+                unsafe {
+                    springspade::pass_bytes_unchecked(
+                        samples,
+                        window,
+                        &self.words,
+                        &self.frame,
+                        at,
+                    );
+                }
+            });
+        })
+    }
+
+    /// The same by the Rust, over samples of any type.
+    pub fn rust<S: Px>(&self, planes: &mut [Vec<S>; 3]) -> f64 {
+        fill(planes, &self.before);
         nanoseconds(|| {
             self.each_pass(|at, &Window { width, height, stride, y_origin }| {
                 let samples = &mut planes[at.plane as usize];
@@ -111,8 +152,11 @@ impl Superblocks {
     }
 
     /// The planes have what the entry left.
-    pub fn compare(&self, name: &str, planes: &Planes) {
-        assert!(*planes == self.after, "{name}: samples differ from those that the entry left");
+    pub fn compare<S: Copy + Into<u16>>(&self, name: &str, planes: &[Vec<S>; 3]) {
+        for (plane, after) in planes.iter().zip(&self.after) {
+            let is_equal = plane.iter().map(|&sample| sample.into()).eq(after.iter().copied());
+            assert!(is_equal, "{name}: samples differ from those that the entry left");
+        }
     }
 
     /// Superblock by superblock, plane by plane, the vertical edges first.
