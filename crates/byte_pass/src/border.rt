@@ -6,7 +6,7 @@ ghost use Rattle.pass.specs.Chunks.{keyStencil, keyedRun};
 ghost use Rattle.strength.specs.StrengthLaws.{Limits};
 ghost use Rattle.window.specs.Stencil.{applied, inTurn};
 ghost use Rattle.window.specs.WindowLaws.{Lent};
-ghost use Rattle.byte_pass.specs.ChunkKeys.{Keys};
+ghost use Rattle.byte_lanes.specs.ByteLanes.{Keys};
 use byte_border::filter_byte_position_unchecked;
 use geometry::Pass;
 use strength::strength_by_unchecked;

@@ -31,7 +31,16 @@ fn filter_edge(
     let count = edge_len(s, pass) / 16;
     for m in 0..count {
         filter_chunk(
-            samples, g, s, pass, sharpness, limits, outer, inner, edge, m,
+            samples,
+            g,
+            s,
+            pass,
+            sharpness,
+            limits,
+            outer,
+            inner,
+            edge,
+            m,
         );
     }
 }
@@ -52,8 +61,6 @@ pub(crate) fn filter_keys(
     let count = edge_count(s, pass);
     let limits = limits_table();
     for edge in 0..count {
-        filter_edge(
-            samples, g, s, pass, sharpness, &limits, outer, inner, edge,
-        );
+        filter_edge(samples, g, s, pass, sharpness, &limits, outer, inner, edge);
     }
 }

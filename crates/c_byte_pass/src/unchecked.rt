@@ -41,5 +41,13 @@ pub extern "C" fn springspade_pass_bytes_unchecked(
         top: y_origin,
     };
     let s = superblock_of(sub_x, sub_y, mi_cols, mi_rows, mi_row, mi_col, plane);
-    superblock_loop_filter_bytes_unchecked(samples, g, cells, s, pass_of(pass), 0 < plane, sharpness);
+    superblock_loop_filter_bytes_unchecked(
+        samples,
+        g,
+        cells,
+        s,
+        pass_of(pass),
+        0 < plane,
+        sharpness,
+    );
 }

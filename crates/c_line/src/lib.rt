@@ -68,7 +68,13 @@ pub extern "C" fn springspade_line_bytes(
 ) -> Refusal
     ensures { λ r. ⌜ Answers (lentLine Byte «bit_depth» «filter_size» limit blimit thresh (now (taps .entry))) (numbersOf r) (now (taps .entry)) (now (taps .exit)) ⌝ }
 {
-    let answer =
-        byte_line::sample_filtering_bytes(taps, bit_depth, filter_size, limit, blimit, thresh);
+    let answer = byte_line::sample_filtering_bytes(
+        taps,
+        bit_depth,
+        filter_size,
+        limit,
+        blimit,
+        thresh,
+    );
     refusal_of(answer)
 }

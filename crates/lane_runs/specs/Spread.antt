@@ -10,9 +10,12 @@ use lib.ListN.{length, getD, replicate}
 abbrev pub placeOf : (at step along l k : ℕ) → ℕ
 placeOf at step along l k = at + l * along + k * step
 
--- no two taps of the first n positions share a place
-pub record Spaced (at step along n : ℕ) : Type 0 where
-  pub apart : (l k i j : ℕ) → l < n → k < 16 → i < n → j < 16 → placeOf at step along l k ≡ placeOf at step along i j → (l ≡ i) × (k ≡ j)
+-- no two of the first m taps of the first n positions share a place
+pub record PlacesApart (at step along n m : ℕ) : Type 0 where
+  pub apart : (l k i j : ℕ) → l < n → k < m → i < n → j < m → placeOf at step along l k ≡ placeOf at step along i j → (l ≡ i) × (k ≡ j)
+
+abbrev pub Spaced : (at step along n : ℕ) → Type 0
+Spaced at step along n = PlacesApart at step along n 16
 
 -- of the lists w before and u after: tap k of position l is v l k for the first n positions and the m taps from lo on, and all else
 -- is kept
@@ -35,3 +38,7 @@ pub record LaneRun (at step along n : ℕ) (w : List ℕ) : Type 0 where
 -- a table of lanes with the m taps from lo on of the first n positions, zeros else
 abbrev pub Loaded : (at step along n lo m : ℕ) (w t : List ℕ) → Type 0
 Loaded at step along n lo m w t = Spread 0 16 1 n lo m (λ l k. getD w (placeOf at step along l k) 0) (replicate 256 0) t
+
+-- one that has those taps; its other entries are of no interest
+pub record Taken (at step along n lo m : ℕ) (w t : List ℕ) : Type 0 where
+  pub taken : (l k : ℕ) → l < n → lo ≤ k → k < lo + m → getD t (16 * k + l) 0 ≡ getD w (placeOf at step along l k) 0

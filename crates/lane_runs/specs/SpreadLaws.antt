@@ -14,7 +14,7 @@ use Rattle.base.specs.NotationLaws.{split}
 use Rattle.lanes.specs.Lanes.{Table}
 use Rattle.window.specs.Stencil.{scatter}
 use Rattle.window.specs.StencilLaws.{scatter-length, scatter-other}
-use Rattle.lane_runs.specs.Spread.{placeOf, Spaced, Spread, SpacedRun, LaneRun, Loaded}
+use Rattle.lane_runs.specs.Spread.{placeOf, PlacesApart, Spaced, Spread, SpacedRun, LaneRun, Loaded, Taken}
 
 -- ---- places
 
@@ -89,7 +89,7 @@ module _ (at step along N lo m : ℕ) (v : ℕ → ℕ → ℕ) (w : List ℕ) w
           ∙ ap (v n) y
 
   -- a tap more
-  pub spread-tap : (n : ℕ) (u r : List ℕ) (writes sample : ℕ → ℕ) → Spaced at step along N → n ≤ N → lo + m < 16 → ((l : ℕ) → l < n → placeOf at step along l (lo + m) < length w)
+  pub spread-tap : (n : ℕ) (u r : List ℕ) (writes sample : ℕ → ℕ) {M : ℕ} → PlacesApart at step along N M → n ≤ N → lo + m < M → ((l : ℕ) → l < n → placeOf at step along l (lo + m) < length w)
       → ((l : ℕ) → l < n → writes l ≡ placeOf at step along l (lo + m)) → ((l : ℕ) → l < n → sample l ≡ v l (lo + m)) → Spread at step along n lo m v w u → r ≡ scatter (λ l. true) writes sample n u → Spread at step along n lo (m + 1) v w r
   spread-tap n u r writes sample s few taps lent is-write is-sample inv made = rw made record {
     long = scatter-length (λ k. true) writes sample n u ∙ inv .long;
@@ -138,6 +138,9 @@ module _ (at step along N lo m : ℕ) (w : List ℕ) where
   loaded-tap n t u reads r taps is inv e =
       let le = r .few in
       spread-tap 0 16 1 16 lo m _ (replicate 256 0) n t u (λ l. 16 * (lo + m) + l) (λ l. getD w (reads l) 0) spaced-table (omega arith) taps (λ l b. room l (lo + m) (omega arith) taps) (λ l b. omega arith) (λ l b. ap (λ (i : ℕ). getD w i 0) (is l b)) inv e
+
+pub spread-taken : {at step along n lo m : ℕ} {w t u : List ℕ} → Spread 0 16 1 n lo m (λ l k. getD w (placeOf at step along l k) 0) t u → Taken at step along n lo m w u
+spread-taken {u = u} loaded = record { taken = λ l k a b d. ap (λ (i : ℕ). getD u i 0) (omega arith) ∙ loaded .done l k a b d }
 
 zeros-small : (n i : ℕ) → getD (replicate n 0) i 0 < 4096
 zeros-small zero i = omega arith
