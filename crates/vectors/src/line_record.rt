@@ -33,7 +33,7 @@ fn is_refusal(record: &Record, number: u8, place: usize) -> bool {
     (number == record[5]) & (place == wide(record[6]))
 }
 
-fn is_answer(record: &Record, answer: LineAnswer) -> bool {
+pub(crate) fn is_answer(record: &Record, answer: LineAnswer) -> bool {
     match answer {
         LineAnswer::Done => is_refusal(record, 0, 0),
         LineAnswer::Depth => is_refusal(record, 2, 0),

@@ -1,4 +1,7 @@
 // Replays the fixed test vectors of data/ and prints a line for each file.
+mod byte_line_record;
+mod byte_pass_record;
+mod byte_samples;
 mod edge_record;
 mod levels_record;
 mod line_record;
@@ -25,9 +28,11 @@ fn main() {
     replay_file(b"frames.bin", Kind::Levels);
     replay_file(b"strength.bin", Kind::Strength);
     replay_file(b"lines.bin", Kind::Line);
+    replay_file(b"byte_lines.bin", Kind::ByteLine);
     replay_file(b"rows.bin", Kind::Row);
     replay_file(b"edges.bin", Kind::Edge);
     replay_file(b"passes.bin", Kind::Pass);
+    replay_file(b"byte_passes.bin", Kind::BytePass);
     replay_file(b"sheets.bin", Kind::Sheet);
     replay_record_forms();
 }

@@ -1,9 +1,16 @@
 // Numbers of a record, the lowest byte first. Those that a call takes as a size are wide.
-ghost use Prim.Native.Nat.{_<_};
+ghost use Prim.Native.Nat.{_<_, _≤_};
 use crate::replay::Record;
 
 pub(crate) fn wide(byte: u8) -> usize {
     byte as usize
+}
+
+// At most the room, also in a record that says more: so a list never reaches past it.
+pub(crate) fn at_most(length: usize, room: usize) -> usize
+    ensures { λ r. ⌜ r ≤ room ⌝ }
+{
+    if length < room { length } else { room }
 }
 
 pub(crate) fn unsigned16(low: u8, high: u8) -> u16 {

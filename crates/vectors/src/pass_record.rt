@@ -1,5 +1,6 @@
 // A record of a pass, laid out as tests/differential/src/vectors.rs says.
 ghost use Prim.Native.Nat.{_≤_};
+use crate::numbers::at_most;
 use crate::numbers::unsigned16_at;
 use crate::numbers::unsigned32_at;
 use crate::numbers::wide;
@@ -34,13 +35,6 @@ fn are_lengths(record: &Record) -> bool {
     (wide(record[7]) <= CELLS) & (wide32_at(record, 32) <= SAMPLES)
 }
 
-// At most the room, also in a record that says more: so a list never reaches past it.
-fn at_most(length: usize, room: usize) -> usize
-    ensures { λ r. ⌜ r ≤ room ⌝ }
-{
-    if length < room { length } else { room }
-}
-
 fn cells_of(record: &Record) -> [u32; CELLS] {
     let mut out = [0u32; CELLS];
     for k in 0..CELLS {
@@ -59,7 +53,7 @@ fn samples_at(record: &Record, start: usize) -> [u16; SAMPLES]
     out
 }
 
-fn window_of(record: &Record) -> WindowShape {
+pub(crate) fn window_of(record: &Record) -> WindowShape {
     WindowShape {
         width: wide32_at(record, 16),
         height: wide32_at(record, 20),
@@ -68,7 +62,7 @@ fn window_of(record: &Record) -> WindowShape {
     }
 }
 
-fn numbers_of(record: &Record) -> PassNumbers {
+pub(crate) fn numbers_of(record: &Record) -> PassNumbers {
     PassNumbers {
         sharpness: record[0],
         bit_depth: record[1],
@@ -173,7 +167,7 @@ fn is_refusal(record: &Record, number: u8, place: usize) -> bool {
     (number == record[6]) & (place == wide32_at(record, 36))
 }
 
-fn is_answer(record: &Record, answer: PassAnswer) -> bool {
+pub(crate) fn is_answer(record: &Record, answer: PassAnswer) -> bool {
     match answer {
         PassAnswer::Done => is_refusal(record, 0, 0),
         PassAnswer::Sharpness => is_refusal(record, 1, 0),

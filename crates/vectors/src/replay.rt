@@ -1,5 +1,7 @@
 // Reads a file of records, counts those that the library answers as they say, and prints the count.
 ghost use Prim.Native.Nat.{_≤_};
+use crate::byte_line_record;
+use crate::byte_pass_record;
 use crate::edge_record;
 use crate::levels_record;
 use crate::line_record;
@@ -18,12 +20,14 @@ pub(crate) enum Kind {
     Levels,
     Strength,
     Line,
+    ByteLine,
     Row,
     RowRecords,
     Edge,
     Pass,
     PassWindow,
     PassRecords,
+    BytePass,
     Sheet,
 }
 
@@ -50,9 +54,11 @@ fn record_length(kind: Kind) -> usize
         Kind::Levels => levels_record::LENGTH,
         Kind::Strength => strength_record::LENGTH,
         Kind::Line => line_record::LENGTH,
+        Kind::ByteLine => byte_line_record::LENGTH,
         Kind::Row | Kind::RowRecords => row_record::LENGTH,
         Kind::Edge => edge_record::LENGTH,
         Kind::Pass | Kind::PassWindow | Kind::PassRecords => pass_record::LENGTH,
+        Kind::BytePass => byte_pass_record::LENGTH,
         Kind::Sheet => sheet_record::LENGTH,
     }
 }
@@ -62,12 +68,14 @@ fn is_equal(kind: Kind, record: &Record) -> bool {
         Kind::Levels => levels_record::is_equal(record),
         Kind::Strength => strength_record::is_equal(record),
         Kind::Line => line_record::is_equal(record),
+        Kind::ByteLine => byte_line_record::is_equal(record),
         Kind::Row => row_record::is_equal(record),
         Kind::RowRecords => row_record::is_equal_in_records(record),
         Kind::Edge => edge_record::is_equal(record),
         Kind::Pass => pass_record::is_equal(record, Form::Words),
         Kind::PassWindow => pass_record::is_equal(record, Form::Window),
         Kind::PassRecords => pass_record::is_equal(record, Form::Records),
+        Kind::BytePass => byte_pass_record::is_equal(record),
         Kind::Sheet => sheet_record::is_equal(record),
     }
 }

@@ -6,6 +6,8 @@
 //! strength.bin: records of 6 bytes: sharpness, level, the refusal's number or 0, limit, blimit, thresh.
 //! lines.bin: records of 72 bytes: depth, size, limit, blimit, thresh, the refusal's number or 0, its
 //! place, 0; the 16 samples before and the 16 after, of two bytes, the lower first, from p7 to q7.
+//! byte_lines.bin: records of 56 bytes: the same eight, the last of them how many bytes are lent; 24 bytes
+//! before and 24 after, the line's 16 first; those that are not lent are 0.
 //! rows.bin: records of 492 bytes: sharpness, depth, sub_x, sub_y; mi_cols, mi_rows, base; the lengths
 //! of mi_sizes, tx_sizes, skips, ref_frames, y_modes, segment_ids and cells; the refusal's number or 0,
 //! its place; a zero byte; 64 levels; the six lists in the same order; cells before and cells after.
@@ -20,9 +22,16 @@
 //! two each: mi_cols, mi_rows, row, col. From 16 on four each: width, height, stride, y_origin, how many
 //! samples are lent, the refusal's place. From 40 on 32 cells of four bytes, from 168 on 640 samples
 //! before and from 1,448 on 640 samples after, of two bytes; cells and samples that are not lent are 0.
+//! byte_passes.bin: records of 1,448 bytes. The first 40 as in passes.bin, but that the eighth is how many
+//! bytes of cells are lent. From 40 on 128 of them, four to a cell, the highest first, from 168 on 640 samples
+//! before and from 808 on 640 after, of one byte; those that are not lent are 0.
 //! sheets.bin: records of 1,860 bytes. Two bytes each, the lower first: how many bytes the sheet has, how
 //! many its text. From byte 4 on 272 bytes of the sheet, from 276 on 1,584 of the text, 0 behind theirs.
 
+#[cfg(oracle)]
+mod byte_lines;
+#[cfg(oracle)]
+mod byte_passes;
 #[cfg(oracle)]
 mod edges;
 #[cfg(oracle)]
@@ -34,10 +43,10 @@ mod sheets;
 
 use crate::lines::{Line, STEP};
 use crate::{cases::Case, libvpx};
-use std::collections::HashSet;
+use std::{array, collections::HashSet};
 
 /// Name and contents of each file; no contents where its source is not at hand.
-pub fn files() -> [(&'static str, Option<Vec<u8>>); 8] {
+pub fn files() -> [(&'static str, Option<Vec<u8>>); 10] {
     let folder = libvpx::folder();
     let (rows, edges) = folder.as_deref().and_then(rows_and_edges).unzip();
     [
@@ -45,11 +54,23 @@ pub fn files() -> [(&'static str, Option<Vec<u8>>); 8] {
         ("frames.bin", folder.as_deref().map(frames)),
         ("strength.bin", folder.as_deref().map(strengths)),
         ("lines.bin", folder.as_deref().map(lines)),
+        ("byte_lines.bin", folder.as_deref().and_then(byte_lines)),
         ("rows.bin", rows),
         ("edges.bin", edges),
         ("passes.bin", passes()),
+        ("byte_passes.bin", byte_passes()),
         ("sheets.bin", sheets()),
     ]
+}
+
+#[cfg(not(oracle))]
+fn byte_lines(_: &std::path::Path) -> Option<Vec<u8>> {
+    None
+}
+
+#[cfg(oracle)]
+fn byte_lines(folder: &std::path::Path) -> Option<Vec<u8>> {
+    Some(byte_lines::contents(folder))
 }
 
 #[cfg(not(oracle))]
@@ -70,6 +91,16 @@ fn passes() -> Option<Vec<u8>> {
 #[cfg(oracle)]
 fn passes() -> Option<Vec<u8>> {
     Some(passes::contents())
+}
+
+#[cfg(not(oracle))]
+fn byte_passes() -> Option<Vec<u8>> {
+    None
+}
+
+#[cfg(oracle)]
+fn byte_passes() -> Option<Vec<u8>> {
+    Some(byte_passes::contents())
 }
 
 #[cfg(not(oracle))]
@@ -148,12 +179,16 @@ fn lines(folder: &std::path::Path) -> Vec<u8> {
     accepted.chain(refused).flatten().collect()
 }
 
+/// The document's step, to be filtered at level 32 and sharpness 0.
+fn step(depth: u8, size: u8) -> Line {
+    let strength = springspade::strength(32, 0).unwrap();
+    Line { depth, size, strength, taps: STEP }
+}
+
 /// Each with its number and place.
 fn lines_refused() -> [(Line, u8, u8); 13] {
-    let strength = springspade::strength(32, 0).unwrap();
-    let step = Line { depth: 8, size: 0, strength, taps: STEP };
     let with = |depth: u8, size: u8, samples: &[(usize, u16)]| {
-        let mut line = Line { depth, size, ..step };
+        let mut line = step(depth, size);
         samples.iter().for_each(|&(tap, sample)| line.taps[tap] = sample);
         line
     };
@@ -174,9 +209,20 @@ fn lines_refused() -> [(Line, u8, u8); 13] {
     ]
 }
 
-fn line_record(line: &Line, refusal: u8, place: u8, after: &[u16; 16]) -> Vec<u8> {
+/// What stands before the samples of a line.
+fn line_numbers(line: &Line, refusal: u8, place: u8, lent: u8) -> [u8; 8] {
     let springspade::Strength { limit, blimit, thresh } = line.strength;
-    let mut bytes = vec![line.depth, line.size, limit, blimit, thresh, refusal, place, 0];
+    [line.depth, line.size, limit, blimit, thresh, refusal, place, lent]
+}
+
+fn line_record(line: &Line, refusal: u8, place: u8, after: &[u16; 16]) -> Vec<u8> {
+    let mut bytes = line_numbers(line, refusal, place, 0).to_vec();
     bytes.extend(line.taps.iter().chain(after).flat_map(|sample| sample.to_le_bytes()));
     bytes
+}
+
+/// A list in a room of this length, behind it zeros.
+fn padded<T: Copy + Default, const N: usize>(list: &[T]) -> [T; N] {
+    assert!(list.len() <= N, "{} of {N}", list.len());
+    array::from_fn(|k| list.get(k).copied().unwrap_or_default())
 }

@@ -1,5 +1,6 @@
 //! passes.bin: by the Rust, of passes that reach every case, and refusals of the document.
 
+use super::padded;
 use crate::passes::reached::{Reached, count};
 use crate::passes::small::small;
 use crate::passes::{Pass, row_cells};
@@ -7,11 +8,11 @@ use crate::positions::levelless;
 use crate::random::Random;
 use crate::rust;
 use springspade::{Frame, Superblock, Window};
-use std::array;
+use std::{array, iter};
 
 /// A record has room for so many cells and samples; behind those that are lent they are 0.
 const CELLS: usize = 32;
-const SAMPLES: usize = 640;
+pub const SAMPLES: usize = 640;
 
 /// Passes are taken until each case that they can reach was met so often.
 const OFTEN: usize = 2;
@@ -19,21 +20,23 @@ const OFTEN: usize = 2;
 /// Of so many random passes.
 const CANDIDATES: usize = 8_000;
 
-struct Record {
-    pass: Pass,
+#[derive(Clone)]
+pub struct Record {
+    pub pass: Pass,
     /// The refusal's, both 0 if there is none.
     number: u8,
     place: u32,
 }
 
 pub fn contents() -> Vec<u8> {
-    let passes = [document(), borders(), limits(), random()].concat();
+    let passes = [document(), borders(), limits(), random(33, |_| true)].concat();
     let records = passes.into_iter().map(Record::by_the_rust);
-    records.chain(refused()).flat_map(|record| record.bytes()).collect()
+    let refused = refused(&small(), &FAULTS);
+    records.chain(refused).flat_map(|record| record.bytes()).collect()
 }
 
 /// Case S, whole and cut, with transform 2 and without level.
-fn document() -> Vec<Pass> {
+pub fn document() -> Vec<Pass> {
     const CASE_S: u32 = 0x1156_0000;
     let frame = Frame { sharpness: 0, bit_depth: 8, sub_x: 0, sub_y: 0, mi_cols: 2, mi_rows: 1 };
     let at = Superblock { mi_row: 0, mi_col: 0, plane: 0, pass: 0 };
@@ -54,7 +57,7 @@ fn document() -> Vec<Pass> {
 
 /// Chroma planes of frames that end inside a superblock, in all subsamplings, with even and odd sizes:
 /// the rules of the last column and the last row.
-fn borders() -> Vec<Pass> {
+pub fn borders() -> Vec<Pass> {
     let mut random = Random(35);
     let mut passes = Vec::new();
     for k in 0..32 {
@@ -78,7 +81,7 @@ fn borders() -> Vec<Pass> {
 }
 
 /// The largest stride and the last rows that a window may have.
-fn limits() -> Vec<Pass> {
+pub fn limits() -> Vec<Pass> {
     let Window { stride, y_origin, .. } = small().window;
     [(1, 131_072, y_origin), (12, stride, 65_524), (1, stride, 65_535)]
         .map(|(height, stride, y_origin)| {
@@ -89,13 +92,14 @@ fn limits() -> Vec<Pass> {
         .to_vec()
 }
 
-/// Random passes that fit into a record, those that reach what was not yet reached often.
-fn random() -> Vec<Pass> {
-    let mut random = Random(33);
+/// Random passes that fit into a record, of those that are taken the ones that reach what was not yet
+/// reached often.
+pub fn random(seed: u64, is_taken: fn(&Pass) -> bool) -> Vec<Pass> {
+    let mut random = Random(seed);
     let mut all = Reached::default();
     let mut passes = Vec::new();
-    for _ in 0..CANDIDATES {
-        let pass = fitting(&mut random);
+    let candidates = iter::repeat_with(|| fitting(&mut random)).filter(is_taken);
+    for pass in candidates.take(CANDIDATES) {
         let mut one = Reached::default();
         count(&mut one, &pass);
         let seldom = |name: &String| all.0.get(name).is_none_or(|&often| often < OFTEN);
@@ -132,9 +136,9 @@ fn fitting(random: &mut Random) -> Pass {
 }
 
 /// What is wrong with a record, and the number and place of its refusal.
-type Fault = (u8, u32, fn(&mut Pass));
+pub type Fault = (u8, u32, fn(&mut Pass));
 
-const FAULTS: [Fault; 69] = [
+pub const FAULTS: [Fault; 69] = [
     (1, 0, |p| p.frame.sharpness = 8),
     (1, 0, |p| p.frame.sharpness = 255),
     (2, 0, |p| p.frame.bit_depth = 7),
@@ -206,45 +210,53 @@ const FAULTS: [Fault; 69] = [
     (1, 0, |p| (p.frame.sharpness, p.cells[5], p.window.width) = (8, 1, 0)),
 ];
 
-fn refused() -> Vec<Record> {
+/// An accepted pass with each of the faults.
+pub fn refused(accepted: &Pass, faults: &[Fault]) -> Vec<Record> {
     let record = |&(number, place, fault): &Fault| {
-        let mut pass = small();
+        let mut pass = accepted.clone();
         fault(&mut pass);
         Record { pass, number, place }
     };
-    FAULTS.iter().map(record).collect()
+    faults.iter().map(record).collect()
 }
 
 impl Record {
     /// Refused where the Rust panics for a cell without level.
-    fn by_the_rust(pass: Pass) -> Record {
+    pub fn by_the_rust(pass: Pass) -> Record {
         let place = levelless(&pass);
         assert_eq!(place.is_none(), rust::pass(&pass).is_some(), "{}", pass.call());
         let number = if place.is_some() { 14 } else { 0 };
         Record { pass, number, place: place.unwrap_or(0) }
     }
 
-    fn bytes(&self) -> Vec<u8> {
-        let Pass { frame, at, cells, window, samples } = &self.pass;
-        assert!(cells.len() <= CELLS && samples.len() <= SAMPLES, "{}", self.pass.call());
+    /// What stands before the cells, of which so many are lent.
+    pub fn numbers(&self, lent: usize) -> Vec<u8> {
+        let Pass { frame, at, window, samples, .. } = &self.pass;
         let mut bytes = vec![frame.sharpness, frame.bit_depth, frame.sub_x, frame.sub_y];
-        bytes.extend([at.plane, at.pass, self.number, cells.len() as u8]);
+        bytes.extend([at.plane, at.pass, self.number, u8::try_from(lent).unwrap()]);
         let numbers = [frame.mi_cols, frame.mi_rows, at.mi_row, at.mi_col];
         bytes.extend(numbers.iter().flat_map(|&n| u16::try_from(n).unwrap().to_le_bytes()));
         let numbers = [window.width, window.height, window.stride, window.y_origin, samples.len()];
         bytes.extend(numbers.iter().flat_map(|&n| u32::try_from(n).unwrap().to_le_bytes()));
         bytes.extend(self.place.to_le_bytes());
+        bytes
+    }
+
+    /// The samples before and after.
+    pub fn samples(&self) -> [Vec<u16>; 2] {
+        let before = self.pass.samples.clone();
+        let after = if self.number == 0 { rust::pass(&self.pass).unwrap() } else { before.clone() };
+        [before, after]
+    }
+
+    fn bytes(&self) -> Vec<u8> {
+        let cells = &self.pass.cells;
+        let mut bytes = self.numbers(cells.len());
         bytes.extend(padded::<u32, CELLS>(cells).iter().flat_map(|word| word.to_le_bytes()));
-        let after =
-            if self.number == 0 { rust::pass(&self.pass).unwrap() } else { samples.clone() };
-        for samples in [samples, &after] {
-            let samples = padded::<u16, SAMPLES>(samples);
+        for samples in self.samples() {
+            let samples = padded::<u16, SAMPLES>(&samples);
             bytes.extend(samples.iter().flat_map(|sample| sample.to_le_bytes()));
         }
         bytes
     }
-}
-
-fn padded<T: Copy + Default, const N: usize>(list: &[T]) -> [T; N] {
-    array::from_fn(|k| list.get(k).copied().unwrap_or_default())
 }

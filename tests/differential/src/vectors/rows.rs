@@ -1,5 +1,6 @@
 //! rows.bin: by the Rust, of libvpx's mode info among others, and refusals of the document.
 
+use super::padded;
 use crate::cells::packed;
 use crate::random::Random;
 use crate::rows::{BAD, Block, MODES, REFERENCES, Row, SEGMENTS};
@@ -192,19 +193,15 @@ impl Record {
         bytes.extend([self.number, self.place, 0]);
         bytes.extend(levels);
         for list in [&blocks.mi_sizes, &blocks.tx_sizes, &blocks.skips] {
-            bytes.extend(padded(list));
+            bytes.extend(padded::<_, ENTRIES>(list));
         }
-        bytes.extend(padded(&blocks.ref_frames).iter().flat_map(|n| n.to_le_bytes()));
+        bytes.extend(padded::<_, ENTRIES>(&blocks.ref_frames).iter().flat_map(|n| n.to_le_bytes()));
         for list in [&blocks.y_modes, &blocks.segment_ids] {
-            bytes.extend(padded(list));
+            bytes.extend(padded::<_, ENTRIES>(list));
         }
         for words in [&before, &after] {
-            bytes.extend(padded(words).iter().flat_map(|word| word.to_le_bytes()));
+            bytes.extend(padded::<_, ENTRIES>(words).iter().flat_map(|word| word.to_le_bytes()));
         }
         bytes
     }
-}
-
-fn padded<T: Copy + Default>(list: &[T]) -> [T; ENTRIES] {
-    array::from_fn(|k| list.get(k).copied().unwrap_or_default())
 }
