@@ -1,5 +1,6 @@
 pub mod ByteSamples
-pub mod ByteSamplesLaws
+pub mod ByteBounds
+pub mod Picks
 pub mod ByteArm
 pub mod ByteArmLaws
 pub mod TopLimit

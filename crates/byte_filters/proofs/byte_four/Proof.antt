@@ -7,7 +7,7 @@ use borrow.Author.Needs.{needs}
 use Rattle.line.specs.Masks.{hevMask}
 use Rattle.line.specs.NarrowFilter.{narrowFilter}
 use Rattle.byte_filters.specs.ByteSamples.{bytesOf, byteFourOf}
-use Rattle.byte_filters.specs.ByteSamplesLaws.{put-picks}
+use Rattle.byte_filters.specs.Picks.{put-picks}
 use Rattle.byte_filters.proofs.byte_four.Statement.{statement}
 use Rattle.byte_filters.proofs.byte_four.Tie as tie
 

@@ -4,7 +4,7 @@ use lib.Dec.{eqb}
 use borrow.Author.Needs.{needs}
 use Rattle.wide_filter.specs.WideFilter.{wideFilter}
 use Rattle.byte_filters.specs.ByteSamples.{bytesOf, byteSixOf}
-use Rattle.byte_filters.specs.ByteSamplesLaws.{put-picks}
+use Rattle.byte_filters.specs.Picks.{put-picks}
 use Rattle.byte_filters.proofs.byte_six.Statement.{statement}
 use Rattle.byte_filters.proofs.byte_six.Tie as tie
 

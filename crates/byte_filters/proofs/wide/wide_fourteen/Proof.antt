@@ -9,7 +9,7 @@ use Rattle.lane_filters.specs.LaneSamples.{fourteenOf, samplesOf, putTaps}
 use Rattle.wide_filter.specs.Taps.{tap}
 use Rattle.wide_filter.specs.WideFilter.{wideFilter}
 use Rattle.wide_filter.specs.WideFilterLaws.{wide-below}
-use Rattle.byte_filters.specs.ByteSamplesLaws.{bytes-small, tap-fits}
+use Rattle.byte_filters.specs.ByteBounds.{bytes-small, tap-fits}
 use Rattle.byte_filters.proofs.wide.wide_fourteen.Statement.{statement}
 use Rattle.byte_filters.proofs.wide.wide_fourteen.Tie as tie
 

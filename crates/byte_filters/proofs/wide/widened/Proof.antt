@@ -1,6 +1,6 @@
 use borrow.Author.Needs.{needs}
 use native.Mathlib.Omega.{arith}
-use Rattle.byte_filters.specs.ByteSamplesLaws.{below-none, below-next, below-within}
+use Rattle.byte_filters.specs.ByteBounds.{below-none, below-next, below-within}
 use Rattle.byte_filters.proofs.wide.widened.Statement.{statement}
 use Rattle.byte_filters.proofs.wide.widened.Tie as tie
 

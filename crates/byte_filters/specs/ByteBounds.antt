@@ -1,19 +1,14 @@
--- Lines whose samples are bytes, and lines some of whose samples are stored anew.
+-- Lines whose samples are bytes: a lane of 16 bits holds them, and what is made of them goes back into bytes.
 -- Assumes nothing.
-use mathlib.Core.Path.{_≡_, refl, ap}
-use mathlib.Core.Bool.{Bool, true, false, cond}
+use mathlib.Core.Path.{_≡_}
 use mathlib.Core.List.{List, [], _∷_}
 use Prim.Native.Nat.{ℕ, zero, suc, _<_}
-use native.Mathlib.Nat.{suc-inj}
 use native.Mathlib.Omega.{arith}
-use lib.ListN.{length}
 use mir.Syntax.{w8}
 use mir.Val.{Fits}
-use Rattle.lane_filters.specs.LaneSamples.{samplesOf, putTaps, Small}
+use Rattle.lane_filters.specs.LaneSamples.{samplesOf, Small}
 use Rattle.lane_filters.specs.declared.Lane.{Lane}
 use Rattle.wide_filter.specs.Taps.{tap, Within}
-
--- ---- bounds
 
 -- each number of a list is below b: of none, and of a first one and others
 pub record Below (b : ℕ) (t : List ℕ) : Type 0 where
@@ -42,27 +37,3 @@ bytes-small a w = record { p7 = at 0 (omega arith); p6 = at 1 (omega arith); p5 
 -- a tap of a line that is equal to one of bytes
 pub tap-fits : {t u : List ℕ} → t ≡ u → Within 256 u → (k : ℕ) → k < 16 → Fits w8 (tap t k)
 tap-fits e w k h = record { fits = rw e (w .below k h) }
-
--- ---- samples stored by a flag
-
--- the numbers of one list where the flag is set, else those of the other
-abbrev pub picks : (on : Bool) (vs ws : List ℕ) → List ℕ
-picks on [] ws = []
-picks on (v ∷ vs) [] = []
-picks on (v ∷ vs) (w ∷ ws) = cond on v w ∷ picks on vs ws
-
-picks-all : (on : Bool) (vs ws : List ℕ) → length vs ≡ length ws → picks on vs ws ≡ cond on vs ws
-picks-all true [] [] e = refl
-picks-all false [] [] e = refl
-picks-all on [] (w ∷ ws) e = absurd (omega arith)
-picks-all on (v ∷ vs) [] e = absurd (omega arith)
-picks-all true (v ∷ vs) (w ∷ ws) e = ap (λ (u : List ℕ). v ∷ u) (picks-all true vs ws (suc-inj e))
-picks-all false (v ∷ vs) (w ∷ ws) e = ap (λ (u : List ℕ). w ∷ u) (picks-all false vs ws (suc-inj e))
-
--- what is stored is a filtered line where the flag is set, and else the line as it was
-pub put-picks : (on : Bool) (t u : List ℕ) (k : ℕ) (vs ws : List ℕ) → length vs ≡ length ws → putTaps t k vs ≡ u → putTaps t k ws ≡ t → putTaps t k (picks on vs ws) ≡ cond on u t
-put-picks on t u k vs ws e stored kept = rw (picks-all on vs ws e) (cases on)
-  where
-    cases : (o : Bool) → putTaps t k (cond o vs ws) ≡ cond o u t
-    cases true = stored
-    cases false = kept
