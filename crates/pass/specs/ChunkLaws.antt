@@ -1,5 +1,5 @@
--- The pass by chunks is the pass (`pass-of-chunks`), and what the code does for a chunk is the chunk: inside the window with no clamps
--- and no tests (`chunk-inside`), at its border position by position (`chunk-next`, `keyed-on`, `keyed-off`).
+-- The pass by chunks is the pass (`pass-of-chunks`), and what the code does for positions with keys is what they do: inside the window
+-- with no clamps and no tests (`keyed-inside`), at its border position by position (`keyed-on`, `keyed-off`).
 -- Assumes nothing.
 use mathlib.Core.Path.{_≡_, refl, sym, ap, _∙_}
 use mathlib.Core.Bool.{Bool, true, false, cond}
@@ -30,7 +30,6 @@ use Rattle.order.specs.Order.{run}
 use Rattle.order.specs.Walk.{run-append, run-strip-next, run-beside}
 use Rattle.pass_edges.specs.PassEdges.{alongSub, cellLen, edgeCount, edgeLen}
 use Rattle.positions.specs.Positions.{planeX, planeY}
-use Rattle.tap_places.specs.TurnLaws.{in-turn-next}
 use Rattle.strength.specs.Strength.{strengthOf}
 use Rattle.strength.specs.declared.FilterStrength.{FilterStrength}
 use Rattle.window.specs.InsideRun.{insideRun, firstTap, tapStep, alongStep, plainLines, lines-plain}
@@ -60,10 +59,17 @@ module _ (sharpness depth key : ℕ) where
     pub keyed-off : key % 64 ≡ 0 → applied (keyStencil g pass x y sharpness depth key) samples ≡ samples
     keyed-off off = stencil-idle g pass x y (ltb 0 (key % 64)) (keyLine sharpness depth key) samples (le-ltb 0 (key % 64) (omega arith))
 
--- ---- a loop over the positions of a chunk, over the chunks of an edge, and over edges
+-- inside the window: no clamps and no tests
+pub keyed-inside : (g : WindowShape) (pass : Pass) (x y n sharpness depth : ℕ) (keys : ℕ → ℕ) (samples : List ℕ) → insideRun g pass x y n ≡ true
+    → inTurn (plainLines (firstTap g pass x y) (tapStep g pass) (alongStep g pass) (λ k. keyLine sharpness depth (keys k))) n samples
+    ≡ inTurn (keyedRun g pass x y sharpness depth keys) n samples
+keyed-inside g pass x y n sharpness depth keys samples =
+    lines-plain g pass x y n (λ k. ltb 0 (keys k % 64)) (λ k. keyLine sharpness depth (keys k)) samples (λ k. key-line-off sharpness depth (keys k))
+
+-- ---- a loop over the chunks of an edge, and over edges
 
 -- the chunks of an edge are all its positions
-pub edge-fits : (s : Superblock) (pass : Pass) → 16 * (edgeLen s pass / 16) ≡ edgeLen s pass
+edge-fits : (s : Superblock) (pass : Pass) → 16 * (edgeLen s pass / 16) ≡ edgeLen s pass
 unfolding edgeLen
 edge-fits s pass = fit (alongSub s pass)
   where
@@ -73,17 +79,12 @@ edge-fits s pass = fit (alongSub s pass)
 
 module _ (g : WindowShape) (s : Superblock) (pass : Pass) (sharpness depth : ℕ) (outer inner : List ℕ) where
   module _ (edge first : ℕ) where
-    pub chunk-none : (samples : List ℕ) → samples ≡ chunk g s pass sharpness depth outer inner edge first 0 samples
+    chunk-none : (samples : List ℕ) → samples ≡ chunk g s pass sharpness depth outer inner edge first 0 samples
     unfolding chunk
     chunk-none samples = in-turn-none _ samples
 
-    pub chunk-next : (n : ℕ) (before between after : List ℕ) → after ≡ applied (keyed g s pass sharpness depth outer inner edge (first + n)) between
-        → between ≡ chunk g s pass sharpness depth outer inner edge first n before → after ≡ chunk g s pass sharpness depth outer inner edge first (n + 1) before
-    unfolding chunk
-    chunk-next n before between after e h = in-turn-next (λ k. keyed g s pass sharpness depth outer inner edge (first + k)) n before between after e h
-
     -- n positions behind m
-    pub chunk-split : (m n : ℕ) (samples : List ℕ)
+    chunk-split : (m n : ℕ) (samples : List ℕ)
         → chunk g s pass sharpness depth outer inner edge first (m + n) samples
         ≡ chunk g s pass sharpness depth outer inner edge (first + m) n (chunk g s pass sharpness depth outer inner edge first m samples)
     unfolding chunk
@@ -97,7 +98,7 @@ module _ (g : WindowShape) (s : Superblock) (pass : Pass) (sharpness depth : ℕ
     unfolding chunk
     chunk-idle n samples off = in-turn-idle _ n samples (λ k l u. keyed-off sharpness depth _ g pass _ _ u (off k l))
 
-    pub chunk-length : (n : ℕ) (samples : List ℕ) → length (chunk g s pass sharpness depth outer inner edge first n samples) ≡ length samples
+    chunk-length : (n : ℕ) (samples : List ℕ) → length (chunk g s pass sharpness depth outer inner edge first n samples) ≡ length samples
     unfolding chunk
     chunk-length n samples = in-turn-length _ n samples
 
@@ -108,7 +109,7 @@ module _ (g : WindowShape) (s : Superblock) (pass : Pass) (sharpness depth : ℕ
         let key = keyAlong s pass outer inner edge (first + n) in
         position-range g (2 ^ depth) pass _ _ (ltb 0 (key % 64)) (keyLine sharpness depth key) _ (able .window .wide) (able .window .tall) (key-keeps sharpness depth key (able .deep)) (chunk-range n samples able)
 
-    pub chunk-able : (n : ℕ) (samples : List ℕ) → Able g s sharpness depth samples → Able g s sharpness depth (chunk g s pass sharpness depth outer inner edge first n samples)
+    chunk-able : (n : ℕ) (samples : List ℕ) → Able g s sharpness depth samples → Able g s sharpness depth (chunk g s pass sharpness depth outer inner edge first n samples)
     chunk-able n samples able = able-after able (chunk-length n samples) (chunk-range n samples able)
 
     -- the same from the plane's coordinates of the first position and a list of keys
@@ -121,13 +122,6 @@ module _ (g : WindowShape) (s : Superblock) (pass : Pass) (sharpness depth : ℕ
           (λ i. applied (keyStencil g pass (alongX pass (ex i) k) (alongY pass (ey i) k) sharpness depth (named k l i)) u)
           ∙ (λ i. applied (keyStencil g pass (sym (p .0) i) (sym (p .1) i) sharpness depth (keyAlong s pass outer inner edge (first + k))) u))
 
-      -- inside the window: no clamps and no tests
-      pub chunk-inside : insideRun g pass x y n ≡ true
-          → inTurn (plainLines (firstTap g pass x y) (tapStep g pass) (alongStep g pass) (λ k. keyLine sharpness depth (keys k))) n samples
-          ≡ chunk g s pass sharpness depth outer inner edge first n samples
-      chunk-inside inside =
-          lines-plain g pass x y n (λ k. ltb 0 (keys k % 64)) (λ k. keyLine sharpness depth (keys k)) samples (λ k. key-line-off sharpness depth (keys k)) inside ∙ chunk-along
-
   pub edge-chunks-none : (edge : ℕ) (samples : List ℕ) → samples ≡ edgeChunks g s pass sharpness depth outer inner edge 0 samples
   unfolding edgeChunks
   edge-chunks-none edge samples = refl
@@ -138,7 +132,7 @@ module _ (g : WindowShape) (s : Superblock) (pass : Pass) (sharpness depth : ℕ
   edge-chunks-next edge m before between after e h = rw (add-one m) (e ∙ ap (chunk g s pass sharpness depth outer inner edge (16 * m) 16) h)
 
   -- the first m chunks are the first 16 m positions
-  pub edge-chunks-whole : (edge m : ℕ) (samples : List ℕ) → edgeChunks g s pass sharpness depth outer inner edge m samples ≡ chunk g s pass sharpness depth outer inner edge 0 (16 * m) samples
+  edge-chunks-whole : (edge m : ℕ) (samples : List ℕ) → edgeChunks g s pass sharpness depth outer inner edge m samples ≡ chunk g s pass sharpness depth outer inner edge 0 (16 * m) samples
   unfolding edgeChunks
   edge-chunks-whole edge zero samples = chunk-none edge 0 samples
   edge-chunks-whole edge (suc m) samples =

@@ -1,13 +1,9 @@
 use borrow.Author.Needs.{needs}
 use mathlib.Core.Path.{_≡_, _∙_}
-use Prim.Native.Nat.{ℕ, _%_}
-use lib.Dec.{ltb}
 use lib.ListN.{getD}
-use Rattle.lanes.specs.KeyLine.{keyLine}
-use Rattle.lanes.specs.KeyLineLaws.{key-line-off}
+use Rattle.pass.specs.ChunkLaws.{keyed-inside}
 use Rattle.runs.specs.RunsLaws.{inside-spaced, one-step}
 use Rattle.tap_places.specs.Near.{inside-near}
-use Rattle.window.specs.InsideRun.{lines-plain}
 use Rattle.byte_pass.proofs.chunk.filter_inside.Statement.{statement}
 use Rattle.byte_pass.proofs.chunk.filter_inside.Tie as tie
 
@@ -34,8 +30,7 @@ returns c =
     let s = first .before .before in
     let a = s .args in
     (rw (first .first-tap-unchecked .ensures, step .tap-step .ensures, along .along-step .ensures) at (c .before .before .filter-chunk-unchecked .ensures))
-    ∙ lines-plain (a .g) (a .pass) (a .x) (a .y) (a .n) (λ k. ltb 0 (getD (a .keys .now) k 0 % 64)) (λ k. keyLine (a .sharpness) 8 (getD (a .keys .now) k 0)) (a .samples .now)
-    (λ k. key-line-off (a .sharpness) 8 (getD (a .keys .now) k 0)) (s .pre .3)
+    ∙ keyed-inside (a .g) (a .pass) (a .x) (a .y) (a .n) (a .sharpness) 8 (λ k. getD (a .keys .now) k 0) (a .samples .now) (s .pre .3)
 
 pub filter-inside-spec : {M : Type 1} → statement M
 filter-inside-spec =
