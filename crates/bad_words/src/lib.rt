@@ -1,4 +1,6 @@
 // The test of packed cells: of a word, and of the first words of a list.
+#![tactic(auto)]
+
 ghost use Rattle.std.specs.Prelude.{◌≡◌, ◌≤◌, length};
 ghost use Rattle.base.specs.First.{first, found};
 ghost use Rattle.bad_words.specs.BadWord.{bad_word, bad_cell};

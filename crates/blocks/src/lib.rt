@@ -1,3 +1,5 @@
 // Block sizes, and what the loop filter reads of a cell's mode info.
+#![tactic(auto)]
+
 pub mod mode_info;
 pub mod partition;

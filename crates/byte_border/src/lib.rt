@@ -1,4 +1,6 @@
 // One position at the border of a window of bytes: reads past it clamp to it, and writes past it are dropped.
+#![tactic(auto)]
+
 ghost use Rattle.std.specs.Prelude.{◌≡◌, true, ◌≤◌, ◌<◌, length, get_or};
 ghost use Rattle.line.specs.SampleFiltering.{sample_filtering};
 ghost use Rattle.window.specs.Stencil.{gather, put, scatter, applied};

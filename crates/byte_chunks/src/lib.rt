@@ -1,4 +1,6 @@
 // A chunk of at most 16 positions of an edge in a lent list of bytes: loaded as lanes, filtered by their keys, and stored.
+#![tactic(auto)]
+
 ghost use Rattle.std.specs.Prelude.{◌≡◌, ◌⊎◌, ◌≤◌, get_or};
 ghost use Rattle.byte_lanes.specs.ByteLanes.{Keys};
 ghost use Rattle.lane_runs.specs.Spread.{SpacedRun};

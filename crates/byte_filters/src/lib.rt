@@ -1,4 +1,6 @@
 // The line filter (8.8.5) on one lane of bytes, at depth 8.
+#![tactic(auto)]
+
 ghost use Rattle.std.specs.Prelude.{◌≡◌, cond, ◌%◌, ◌/◌, ◌≤◌, ◌<◌, eqb};
 ghost use Rattle.lane_filters.specs.LaneSamples.{put_taps};
 ghost use Rattle.line.specs.Masks.{hev_mask};

@@ -1,4 +1,6 @@
 // The line filter on 16 lanes of bytes at once, each with a key of its own. Loops have no branch, so that they vectorise.
+#![tactic(auto)]
+
 ghost use Rattle.std.specs.Prelude.{◌≡◌, ◌≤◌, ◌<◌, length};
 ghost use Rattle.byte_filters.specs.ByteSamples.{bytes_of, byte_four_of, byte_six_of, byte_fourteen_of};
 ghost use Rattle.lanes.specs.Lanes.{lane_of, put_lane, EachLane};

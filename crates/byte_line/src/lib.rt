@@ -1,4 +1,6 @@
 // The line filter over bytes, at depth 8: the 16 bytes are widened for the one line filter, and narrowed after it.
+#![tactic(auto)]
+
 ghost use Rattle.std.specs.Prelude.{◌≡◌, ◌++◌, ◌≤◌, length, take, drop};
 ghost use Rattle.base.specs.Outcome.{Answers};
 ghost use Rattle.base.specs.Width.{Byte};

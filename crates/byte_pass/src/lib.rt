@@ -1,4 +1,6 @@
 // One pass over one superblock of a plane of bytes: superblock_loop_filter_cells at depth 8.
+#![tactic(auto)]
+
 ghost use Rattle.std.specs.Prelude.{◌≡◌, List, ℕ, ◌*◌, ◌/◌, ◌≤◌, length};
 ghost use Rattle.base.specs.First.{refuse_first};
 ghost use Rattle.base.specs.Outcome.{Outcome, accepted, Answers};

@@ -1,4 +1,6 @@
 // The samples of at most 16 positions between a lent list of bytes and a table of lanes: tap k of position l at the place 16 * k + l.
+#![tactic(auto)]
+
 ghost use Rattle.std.specs.Prelude.{◌≡◌, ◌⊎◌, ◌+◌, ◌-◌, ◌*◌, ◌<◌, length, get_or};
 ghost use Rattle.lane_runs.specs.Spread.{SpacedRun, Spread, Taken};
 ghost use Rattle.byte_rows.specs.Rows.{reach};

@@ -1,4 +1,6 @@
 // What crosses the border after a call.
+#![tactic(auto)]
+
 ghost use Rattle.std.specs.Prelude.{◌≡◌};
 ghost use Rattle.c_border.specs.Border.{numbers_of, crossing};
 

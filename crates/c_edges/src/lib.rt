@@ -1,4 +1,6 @@
 // The facts of one position.
+#![tactic(auto)]
+
 ghost use Rattle.std.specs.Prelude.{◌≡◌};
 ghost use Rattle.base.specs.Outcome.{refused};
 ghost use Rattle.edges.specs.Edge.{superblock_filter_edge, outcome_of};

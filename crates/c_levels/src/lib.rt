@@ -1,4 +1,6 @@
 // The level table over lists.
+#![tactic(auto)]
+
 ghost use Rattle.std.specs.Prelude.{◌≡◌, ◌≤◌, ◌<◌, length};
 ghost use Rattle.base.specs.Copied.{copied};
 ghost use Rattle.base.specs.Outcome.{Answers};

@@ -1,4 +1,6 @@
 // The line over an array of 16, and over bytes.
+#![tactic(auto)]
+
 ghost use Rattle.std.specs.Prelude.{◌≡◌, ◌≤◌};
 ghost use Rattle.base.specs.Outcome.{Answers};
 ghost use Rattle.base.specs.Width.{Byte, U16};

@@ -1,4 +1,6 @@
 // One pass over one superblock of a plane.
+#![tactic(auto)]
+
 ghost use Rattle.std.specs.Prelude.{◌≡◌};
 ghost use Rattle.base.specs.Outcome.{Answers};
 ghost use Rattle.base.specs.Width.{U16};

@@ -1,4 +1,6 @@
 // The pass over a window record.
+#![tactic(auto)]
+
 ghost use Rattle.base.specs.Outcome.{Answers};
 ghost use Rattle.c_border.specs.Border.{numbers_of};
 ghost use Rattle.plane_window.specs.PlaneWindow.{shape, pass_over};

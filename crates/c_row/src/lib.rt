@@ -1,4 +1,6 @@
 // The cells of a superblock row, and a cell read from its word.
+#![tactic(auto)]
+
 ghost use Rattle.std.specs.Prelude.{◌≡◌};
 ghost use Rattle.base.specs.Outcome.{Answers};
 ghost use Rattle.cells.specs.Cell.{cell_of};

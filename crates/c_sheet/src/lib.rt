@@ -1,4 +1,6 @@
 // The run sheet: the runs of a pass, as text.
+#![tactic(auto)]
+
 ghost use Rattle.std.specs.Prelude.{◌≡◌};
 ghost use Rattle.c_sheet.specs.SheetEntry.{count_of};
 ghost use Rattle.sheet.specs.SheetAnswers.{answer_of, text_of};

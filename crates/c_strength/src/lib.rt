@@ -1,4 +1,6 @@
 // The strength and the mode type.
+#![tactic(auto)]
+
 ghost use Rattle.std.specs.Prelude.{◌≡◌};
 ghost use Rattle.base.specs.Outcome.{refused};
 ghost use Rattle.strength.specs.Strength.{mode_type, strength_for};

@@ -1,4 +1,6 @@
 // A cell as a record of plain numbers, and the word that it packs to.
+#![tactic(auto)]
+
 ghost use Rattle.std.specs.Prelude.{◌≡◌};
 ghost use Rattle.cells.specs.Cell.{bit};
 ghost use Rattle.cell_records.specs.CellRecord.{too_large, word_of, record_of};

@@ -1,4 +1,6 @@
 // A cell packed into a word.
+#![tactic(auto)]
+
 ghost use Rattle.std.specs.Prelude.{◌≡◌, ◌≤◌};
 ghost use Rattle.cells.specs.Cell.{bit, packed, cell_of, Fields};
 

@@ -1,4 +1,6 @@
 // The transforms of chroma blocks, from the Rust's residual.rs.
+#![tactic(auto)]
+
 ghost use Rattle.std.specs.Prelude.{◌≡◌, ◌≤◌};
 ghost use Rattle.blocks.specs.BlockSizes.{by_size};
 ghost use Rattle.chroma_transforms.specs.ChromaTransforms.{max_tx_size, ss_size, uv_limit};

@@ -1,4 +1,6 @@
 // The runs of a pass: along an edge, adjacent cells that filter with equal size and level, joined to at most 16 positions.
+#![tactic(auto)]
+
 ghost use Rattle.std.specs.Prelude.{◌≡◌, ◌+◌, ◌≤◌, ◌<◌};
 ghost use Rattle.decided.specs.Decided.{superblock_of};
 ghost use Rattle.decided.specs.KeyRuns.{key_run, key_for, Keyed};

@@ -1,5 +1,6 @@
 // What is decided of a position by the cells of the superblock row: the definitions are in specs/, and the crate `keys`
 // decides by them.
+#![tactic(auto)]
 
 // Whether a position is filtered, with which size and level, and whether its cell has a level at all.
 #[derive(Drop)]

@@ -1,5 +1,7 @@
 // Prints, of built-in input, a level table, strengths, a line before and after the filter, the cells of a row, the facts of some of
 // its edges, its superblock before and after a pass, and its run sheet.
+#![tactic(auto)]
+
 ghost use Rattle.std.specs.Prelude.{◌<◌};
 
 mod case_s;

@@ -1,4 +1,6 @@
 // The facts of one position of a superblock, plane and pass (8.8.2).
+#![tactic(auto)]
+
 ghost use Rattle.std.specs.Prelude.{◌≡◌, ◌≤◌, ◌<◌};
 ghost use Rattle.blocks.specs.ModeInfoLaws.{Block};
 ghost use Rattle.positions.specs.Positions.{Placed};

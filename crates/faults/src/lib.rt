@@ -1,4 +1,6 @@
 // The tests of a pass, in the order of their numbers. Lists are tested for whether something offends, and only after a hit where.
+#![tactic(auto)]
+
 ghost use Rattle.std.specs.Prelude.{◌≡◌, true, List, ℕ, ◌^◌, ◌≤◌, length};
 ghost use Rattle.base.specs.Depth.{supported};
 ghost use Rattle.base.specs.Outcome.{Outcome};

@@ -1,4 +1,6 @@
 // What the frame header says of the loop filter: its parameter records, which segmentation features are active, and which deltas hold.
+#![tactic(auto)]
+
 ghost use Rattle.std.specs.Prelude.{◌≡◌};
 ghost use Rattle.frame_header.specs.Params.{seg_feature_active, resolved_delta, resolved_from, default_deltas};
 

@@ -1,4 +1,6 @@
 // Where a pass works: the frame, the superblock, the two directions, the two kinds of coordinate.
+#![tactic(auto)]
+
 ghost use Rattle.std.specs.Prelude.{◌≡◌, ◌≤◌};
 ghost use Rattle.geometry.specs.Frame.{bad_subsampling, bad_frame_size, bad_start, cells_from};
 ghost use Rattle.geometry.specs.Coordinates.{shr};

@@ -1,4 +1,6 @@
 // The keys of a pass over a superblock of a plane, and the place of a level that lacks, by cells as words or as bytes.
+#![tactic(auto)]
+
 ghost use Rattle.std.specs.Prelude.{◌≡◌, ◌+◌, ◌*◌, ◌/◌, ◌≤◌, ◌<◌, length};
 ghost use Rattle.base.specs.Filled.{filled};
 ghost use Rattle.base.specs.First.{first, found};

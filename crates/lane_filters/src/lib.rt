@@ -1,4 +1,6 @@
 // The line filter (8.8.5) on one lane: 16 samples of at most 12 bits, so that all of it is done in 16 bits.
+#![tactic(auto)]
+
 ghost use Rattle.std.specs.Prelude.{◌≡◌, true};
 ghost use Rattle.base.specs.Depth.{supported, scaled};
 ghost use Rattle.line.specs.Masks.{filter_mask};

@@ -1,4 +1,6 @@
 // Runs of at most 16 positions that share no samples, filtered side by side in lanes.
+#![tactic(auto)]
+
 ghost use Rattle.std.specs.Prelude.{◌≡◌, true, ◌⊎◌, ◌+◌, ◌*◌, ◌≤◌, ◌<◌, length, get_or};
 ghost use Rattle.base.specs.Depth.{supported};
 ghost use Rattle.line.specs.SampleFiltering.{sample_filtering};

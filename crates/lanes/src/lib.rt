@@ -1,4 +1,6 @@
 // The line filter on 16 lanes at once. Loops have no branch but the filter's own choices, which vectorise.
+#![tactic(auto)]
+
 ghost use Rattle.std.specs.Prelude.{◌≡◌, true, false, ◌≤◌, ◌<◌};
 ghost use Rattle.base.specs.Depth.{supported};
 ghost use Rattle.lane_filters.specs.LaneSamples.{four_of, six_of, fourteen_of};

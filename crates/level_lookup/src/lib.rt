@@ -1,4 +1,6 @@
 // The level table as the filter reads it: LvlLookup of the Rust's loop_filter.rs, and the entry of any segment, reference and mode type.
+#![tactic(auto)]
+
 ghost use Rattle.std.specs.Prelude.{◌≡◌};
 ghost use Rattle.level_lookup.specs.LevelLookup.{zero_levels, lookup_of};
 

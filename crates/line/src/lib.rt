@@ -1,4 +1,6 @@
 // The line filter (8.8.5): 16 samples across an edge, p7 to p0 and then q0 to q7.
+#![tactic(auto)]
+
 ghost use Rattle.std.specs.Prelude.{◌≡◌, true, ◌<◌};
 ghost use Rattle.base.specs.Depth.{supported};
 ghost use Rattle.base.specs.First.{first, found};

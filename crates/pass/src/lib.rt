@@ -1,4 +1,6 @@
 // One pass over one superblock of a plane, as superblock_loop_filter_cells of the Rust's superblock_loop_filter.rs does it.
+#![tactic(auto)]
+
 ghost use Rattle.std.specs.Prelude.{◌≡◌, true, ◌*◌, ◌≤◌, length};
 ghost use Rattle.base.specs.Depth.{supported};
 ghost use Rattle.base.specs.First.{refuse_first};

@@ -1,4 +1,6 @@
 // The edges of a pass over a superblock: how many there are, and how many positions each has.
+#![tactic(auto)]
+
 ghost use Rattle.std.specs.Prelude.{◌≡◌, ◌≤◌};
 ghost use Rattle.geometry.specs.Coordinates.{shr};
 ghost use Rattle.pass_edges.specs.PassEdges.{along_sub, edge_count, edge_len, pass_of};

@@ -1,4 +1,6 @@
 // A window of a plane as one record, which holds the caller's samples, and the pass over it.
+#![tactic(auto)]
+
 ghost use Rattle.std.specs.Prelude.{◌≡◌};
 ghost use Rattle.base.specs.Outcome.{Answers};
 ghost use Rattle.faults.specs.Faults.{returned_of};

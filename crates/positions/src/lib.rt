@@ -1,4 +1,6 @@
 // Where the positions of a pass over a superblock lie.
+#![tactic(auto)]
+
 ghost use Rattle.std.specs.Prelude.{◌≡◌, ◌*◌, ◌≤◌, ◌<◌};
 ghost use Rattle.geometry.specs.Coordinates.{shl};
 ghost use Rattle.positions.specs.Positions.{Placed, luma_x, luma_y, plane_x, plane_y};

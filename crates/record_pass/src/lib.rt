@@ -1,4 +1,6 @@
 // The pass of the loop filter over a lent list of cell records.
+#![tactic(auto)]
+
 ghost use Rattle.std.specs.Prelude.{◌≡◌, length, set, take};
 ghost use Rattle.base.specs.Filled.{filled};
 ghost use Rattle.base.specs.Outcome.{Answers};

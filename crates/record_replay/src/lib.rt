@@ -1,5 +1,7 @@
 // The pass over the first records of an array by value. So a program replays vectors through the record
 // forms and lends no list of records itself.
+#![tactic(auto)]
+
 ghost use Rattle.std.specs.Prelude.{◌≤◌, take};
 ghost use Rattle.base.specs.Outcome.{Answers};
 ghost use Rattle.faults.specs.Faults.{returned_of};

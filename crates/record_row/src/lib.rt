@@ -1,4 +1,6 @@
 // The row's cells as records, in a list that the caller lends.
+#![tactic(auto)]
+
 ghost use Rattle.std.specs.Prelude.{◌≡◌, ◌<◌, ◌≤◌, min, length, get_or, set, take};
 ghost use Rattle.cell_records.specs.CellRecord.{record_of};
 ghost use Rattle.base.specs.Outcome.{Answers};

@@ -1,4 +1,6 @@
 // The cells of a superblock row, as LfRowCells::new of the Rust's superblock_loop_filter.rs makes them.
+#![tactic(auto)]
+
 ghost use Rattle.std.specs.Prelude.{◌≡◌, false};
 ghost use Rattle.base.specs.Filled.{filled};
 ghost use Rattle.base.specs.First.{found};

@@ -1,4 +1,6 @@
 // Reads a run sheet on standard input and prints the runs of its pass.
+#![tactic(auto)]
+
 use libc::{STDERR_FILENO, STDIN_FILENO, STDOUT_FILENO};
 use sheet::{SheetAnswer, run_sheet};
 

@@ -1,4 +1,6 @@
 // Document 01's run sheet: the runs of a pass, as text.
+#![tactic(auto)]
+
 ghost use Rattle.std.specs.Prelude.{◌≡◌, [], ◌-◌, ◌/◌, ◌≤◌, length};
 ghost use Rattle.geometry.specs.Frame.{cells_from};
 ghost use Rattle.positions.specs.Positions.{Placed};

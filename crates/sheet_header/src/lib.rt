@@ -1,4 +1,6 @@
 // The header of a run sheet.
+#![tactic(auto)]
+
 ghost use Rattle.std.specs.Prelude.{◌≡◌, ◌≤◌, ◌<◌, length};
 ghost use Rattle.sheet_header.specs.SheetHeader.{depth_of, header_of, bad_header};
 

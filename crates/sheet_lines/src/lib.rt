@@ -1,4 +1,6 @@
 // The lines of a run sheet.
+#![tactic(auto)]
+
 ghost use Rattle.std.specs.Prelude.{◌∷◌, [], ◌++◌, ◌+◌, ◌≤◌, ◌<◌, length};
 ghost use Rattle.decided.specs.RunsLaws.{Small};
 ghost use Rattle.text.specs.Text.{Put};

@@ -1,4 +1,6 @@
 // The strength of a filter level (8.8.4), in the order of the Rust's adaptive_filter_strength.rs.
+#![tactic(auto)]
+
 ghost use Rattle.std.specs.Prelude.{◌≡◌, ◌≤◌};
 ghost use Rattle.strength.specs.Strength.{mode_type, strength_of, strength_for, outcome_of};
 ghost use Rattle.strength.specs.StrengthLaws.{Limits};

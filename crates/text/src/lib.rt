@@ -1,5 +1,7 @@
 // Text in a lent buffer. Each function writes at a place and answers the place behind what it wrote; bytes past the buffer's end
 // are dropped, so a caller tests once that there is room.
+#![tactic(auto)]
+
 ghost use Rattle.std.specs.Prelude.{◌∷◌, [], ◌+◌, ◌≤◌, ◌<◌, length};
 ghost use Rattle.text.specs.Text.{decimal, Put};
 

@@ -1,4 +1,6 @@
 // Replays the fixed test vectors of data/ and prints a line for each file.
+#![tactic(auto)]
+
 mod byte_line_record;
 mod byte_pass_record;
 mod byte_samples;

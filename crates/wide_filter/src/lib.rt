@@ -1,4 +1,6 @@
 // The wide filter (8.8.5.3). Sums grow from the edge outwards, so that nothing is subtracted.
+#![tactic(auto)]
+
 ghost use Rattle.std.specs.Prelude.{◌≡◌};
 ghost use Rattle.wide_filter.specs.WideFilter.{wide_filter};
 ghost use Rattle.wide_filter.specs.WideSums.{six, fourteen};

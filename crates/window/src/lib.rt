@@ -1,4 +1,6 @@
 // The window of a plane: its shape, and the tests of its shape and of its samples.
+#![tactic(auto)]
+
 ghost use Rattle.std.specs.Prelude.{◌≡◌, ◌+◌, ◌*◌, ◌≤◌, length};
 ghost use Rattle.base.specs.First.{first, found};
 ghost use Rattle.window.specs.Window.{bad_window, reaches, bad_sample};

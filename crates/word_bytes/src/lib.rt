@@ -1,4 +1,6 @@
 // Words that arrive as bytes, the most significant first.
+#![tactic(auto)]
+
 ghost use Rattle.std.specs.Prelude.{◌≡◌, ◌+◌, ◌*◌, ◌≤◌, length};
 ghost use Rattle.base.specs.Filled.{filled};
 ghost use Rattle.word_bytes.specs.WordBytes.{bytes_at};

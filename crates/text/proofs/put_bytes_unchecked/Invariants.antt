@@ -1,0 +1,15 @@
+use borrow.Author.Rules.{rules}
+use mathlib.Core.Path.{◌≡◌, ap, ◌∙◌}
+use Prim.Native.Nat.{◌+◌, ◌-◌, ◌≤◌}
+use native.Mathlib.Omega.{arith}
+use lib.ListN.{length, take}
+use lib.Seq.{take-length}
+use Rattle.text.specs.Text.{written}
+use Rattle.text.specs.TextLaws.{written_none, written_next, written-length}
+use Rattle.text.proofs.put_bytes_unchecked.Given as goal
+
+abbrev pub invariant-loop-k : goal.invariant-loop-k
+invariant-loop-k l = (l.k ≤ length l.text) × (l.end ≡ l.at + l.k) × (l.out ≡ written l.at (take l.k l.text) l.initial.out)
+
+abbrev pub decreases-loop-k : goal.decreases-loop-k
+decreases-loop-k l = length l.text - l.k
