@@ -25,6 +25,8 @@ ALONE = {
 }
 # types and facts of std, and of proofs that go through the code by hand
 CASED = {"T_true"}
+# a struct of src/ has this name too
+STRUCTS = {"LvlLookup"}
 
 
 def table():
@@ -66,6 +68,7 @@ def antt(path, rel, words, fields):
 
 
 def rattle(path, words):
+    words = {a: b for a, b in words.items() if a not in STRUCTS}
     camel = {a: b for a, b in words.items() if "-" not in a}
     with open(path, encoding="utf-8") as f:
         lines = f.read().split("\n")
@@ -78,6 +81,7 @@ def rattle(path, words):
 
 
 def page(path, words):
+    words = {a: b for a, b in words.items() if a not in STRUCTS}
     with open(path, encoding="utf-8") as f:
         text = f.read()
     return re.sub(r"`[^`\n]+`", lambda m: turned(m.group(0), words, set(), False), text)

@@ -21,7 +21,7 @@ use narrow::narrow_filter;
 use wide::{wide_fourteen, wide_six};
 
 // A line by the names of its samples.
-#[derive(Drop)]
+#[derive(Clone, Copy)]
 pub struct ByteLane {
     pub p7: u8,
     pub p6: u8,
@@ -42,7 +42,7 @@ pub struct ByteLane {
 }
 
 // The samples that the narrow filter can change, and those that the wide filter of six can.
-#[derive(Drop)]
+#[derive(Clone, Copy)]
 pub struct ByteFour {
     pub p1: u8,
     pub p0: u8,
@@ -50,7 +50,7 @@ pub struct ByteFour {
     pub q1: u8,
 }
 
-#[derive(Drop)]
+#[derive(Clone, Copy)]
 pub struct ByteSix {
     pub p2: u8,
     pub p1: u8,

@@ -11,7 +11,7 @@ use byte_filters::{
 };
 
 // What filtering changed: some lane, and some tap outside p3 to q3.
-#[derive(Drop)]
+#[derive(Clone, Copy)]
 pub struct Changed {
     pub some: bool,
     pub outer: bool,

@@ -8,7 +8,7 @@ ghost use Rattle.c_border.specs.Border.{numbers_of, crossing};
 // 0 where the number names none. Of several refusals the lowest number is given, with its smallest place. A refused
 // call writes nothing.
 #[repr(C)]
-#[derive(Drop)]
+#[derive(Clone, Copy)]
 pub struct Refusal {
     // 0, or the number of the refusal.
     pub number: u32,

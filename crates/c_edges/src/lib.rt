@@ -10,7 +10,7 @@ use edges::{EdgeAnswer, SuperblockFilterMi};
 
 // The answer of springspade_edge: number and place 0 with the facts, or the number of the refusal with zeros.
 #[repr(C)]
-#[derive(Drop)]
+#[derive(Clone, Copy)]
 pub struct Edge {
     // 0, or the number of the refusal.
     pub number: u32,

@@ -11,7 +11,7 @@ use strength::StrengthAnswer;
 // The answer of springspade_strength: number and place 0 with the three values, or the number of the refusal with
 // zeros. The values are those of 8 bits; springspade_line scales them to its bit_depth.
 #[repr(C)]
-#[derive(Drop)]
+#[derive(Clone, Copy)]
 pub struct Strength {
     // 0, or the number of the refusal.
     pub number: u32,

@@ -9,7 +9,7 @@ use cells::{LfCell, pack_unchecked};
 
 // A cell as LfCell, with a byte for each field.
 #[repr(C)]
-#[derive(Drop)]
+#[derive(Clone, Copy)]
 pub struct CellRecord {
     // Logarithm of the block's width in units of 8 luma samples, for a plane that is not subsampled across: 0 to 3.
     pub width0: u8,

@@ -6,7 +6,7 @@ ghost use Rattle.cells.specs.Cell.{bit, packed, cell_of, Fields};
 
 // What the pass reads of a cell.
 #[repr(C)]
-#[derive(Drop)]
+#[derive(Clone, Copy)]
 pub struct LfCell {
     // Logarithm of the block's width in units of 8 luma samples, for a plane that is not subsampled across: 0 to 3.
     pub width0: u8,

@@ -35,7 +35,7 @@ pub fn superblock_of(
 }
 
 // Positions first, first + 1, .. of an edge, count of them, all with one size and one level. Level 0 filters nothing.
-#[derive(Drop)]
+#[derive(Clone, Copy)]
 pub struct EdgeRun {
     pub edge: usize,
     pub first: usize,

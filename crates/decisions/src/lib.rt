@@ -3,7 +3,7 @@
 #![tactic(auto)]
 
 // Whether a position is filtered, with which size and level, and whether its cell has a level at all.
-#[derive(Drop)]
+#[derive(Clone, Copy)]
 pub struct Decision {
     pub decided: bool,
     pub present: bool,

@@ -17,7 +17,7 @@ use pass_edges::{edge_count, edge_len, pass_of};
 use positions::{luma_x_unchecked, luma_y_unchecked};
 
 // What an edge reads of its cell: MiSize, the transform that holds in the plane, skip, and reference 0.
-#[derive(Drop)]
+#[derive(Clone, Copy)]
 pub struct SuperblockFilterMi {
     pub mi_size: u8,
     pub tx_sz: u8,
@@ -25,7 +25,7 @@ pub struct SuperblockFilterMi {
     pub ref_frame: i32,
 }
 
-#[derive(Drop)]
+#[derive(Clone, Copy)]
 pub struct SuperblockFilterEdge {
     pub x: Luma,
     pub y: Luma,
@@ -40,7 +40,7 @@ pub struct SuperblockFilterEdge {
 }
 
 // The facts of a position, or the refusal of what was handed over.
-#[derive(Drop)]
+#[derive(Clone, Copy)]
 pub enum EdgeAnswer {
     Done(SuperblockFilterEdge),
     Subsampling,

@@ -14,7 +14,7 @@ use geometry::{Superblock, bad_frame_size, bad_start, bad_subsampling, cell_coun
 use window::{WindowShape, any_bad_sample_unchecked, bad_window, first_bad_sample_unchecked};
 
 // What became of a pass: it was run, or refused.
-#[derive(Drop)]
+#[derive(Clone, Copy)]
 pub enum PassAnswer {
     Done,
     Sharpness,

@@ -5,14 +5,14 @@ ghost use Rattle.std.specs.Prelude.{◌≡◌};
 ghost use Rattle.frame_header.specs.Params.{seg_feature_active, resolved_delta, resolved_from, default_deltas};
 
 // A delta of the header: absent unless its update bit was set.
-#[derive(Drop)]
+#[derive(Clone, Copy)]
 pub struct Delta {
     pub present: bool,
     pub value: i8,
 }
 
 // loop_filter_params( ) of 6.2.8.
-#[derive(Drop)]
+#[derive(Clone, Copy)]
 pub struct LoopFilterParams {
     pub level: u8,
     pub sharpness: u8,
@@ -23,7 +23,7 @@ pub struct LoopFilterParams {
 }
 
 // segmentation_params( ) of 6.2.11. Both lists are flat, at segment times 4 plus feature.
-#[derive(Drop)]
+#[derive(Clone, Copy)]
 pub struct SegmentationParams {
     pub enabled: bool,
     pub abs_or_delta_update: bool,
@@ -46,7 +46,7 @@ pub fn seg_feature_active(seg: SegmentationParams, segment_id: usize, feature: u
 }
 
 // The deltas that hold in a frame.
-#[derive(Drop)]
+#[derive(Clone, Copy)]
 pub struct Deltas {
     pub refs: [i8; 4],
     pub modes: [i8; 2],

@@ -6,7 +6,7 @@ ghost use Rattle.geometry.specs.Frame.{bad_subsampling, bad_frame_size, bad_star
 ghost use Rattle.geometry.specs.Coordinates.{shr};
 
 // Pass 0 filters across vertical edges, pass 1 across horizontal ones.
-#[derive(Drop)]
+#[derive(Clone, Copy)]
 pub enum Pass {
     Vertical,
     Horizontal,
@@ -14,7 +14,7 @@ pub enum Pass {
 
 // A superblock of a plane: the subsampling that holds in the plane, MiCols and MiRows of the frame, and the superblock's
 // row and column, all in cells of 8 by 8 luma samples.
-#[derive(Drop)]
+#[derive(Clone, Copy)]
 pub struct Superblock {
     pub subx: bool,
     pub suby: bool,
@@ -25,11 +25,11 @@ pub struct Superblock {
 }
 
 // A coordinate in luma samples, which the edge tests take.
-#[derive(Drop)]
+#[derive(Clone, Copy)]
 pub struct Luma(pub usize);
 
 // A coordinate in the samples of a plane, which an index into a window is made of.
-#[derive(Drop)]
+#[derive(Clone, Copy)]
 pub struct Plane(pub usize);
 
 impl Luma {

@@ -8,7 +8,7 @@ ghost use Rattle.keys.specs.PlainKeys.{halvings, own, limits_of, plain};
 use crate::turned::{Turned, either};
 
 // What decides of the cells along an edge.
-#[derive(Drop)]
+#[derive(Clone, Copy)]
 pub(crate) struct EdgeLimits {
     // How many cells are on screen, and how many may have transform edges.
     pub shown: u32,
@@ -23,7 +23,7 @@ pub(crate) struct EdgeLimits {
 }
 
 // The key of a cell at an edge, and whether it decides without level.
-#[derive(Drop)]
+#[derive(Clone, Copy)]
 pub(crate) struct Entry {
     pub key: u8,
     pub lacking: bool,

@@ -24,7 +24,7 @@ use levelless::first_place;
 use turned::{Turned, pair_count, turned_of};
 
 // The keys of the outer and of the inner edges, and whether a decided position reads a cell without level.
-#[derive(Drop)]
+#[derive(Clone, Copy)]
 pub struct Keys {
     pub outer: [u8; 64],
     pub inner: [u8; 64],

@@ -6,7 +6,7 @@ ghost use Rattle.keys.specs.PlainKeys.{turned_of, pairs, Small};
 use geometry::{Pass, Superblock};
 
 // A pass, turned so that it goes from edge to edge, across, and from cell to cell along each edge.
-#[derive(Drop)]
+#[derive(Clone, Copy)]
 pub(crate) struct Turned {
     // Across: the subsampling, the superblock's first cell and the number of the frame's cells.
     pub sub: bool,

@@ -18,7 +18,7 @@ use narrow::narrow_filter;
 use wide::{wide_fourteen_unchecked, wide_six_unchecked};
 
 // A line by the names of its samples.
-#[derive(Drop)]
+#[derive(Clone, Copy)]
 pub struct Lane {
     pub p7: u16,
     pub p6: u16,
@@ -39,7 +39,7 @@ pub struct Lane {
 }
 
 // The samples that can change at size 0, and at size 1.
-#[derive(Drop)]
+#[derive(Clone, Copy)]
 pub struct Four {
     pub p1: u16,
     pub p0: u16,
@@ -47,7 +47,7 @@ pub struct Four {
     pub q1: u16,
 }
 
-#[derive(Drop)]
+#[derive(Clone, Copy)]
 pub struct Six {
     pub p2: u16,
     pub p1: u16,

@@ -7,14 +7,14 @@ ghost use Rattle.lane_filters.specs.LaneSamples.{samples_of, six_of, fourteen_of
 use crate::{Lane, Six};
 
 // The samples of one side that change, counted from the edge.
-#[derive(Drop)]
+#[derive(Clone, Copy)]
 struct Three {
     x2: u16,
     x1: u16,
     x0: u16,
 }
 
-#[derive(Drop)]
+#[derive(Clone, Copy)]
 struct Seven {
     x6: u16,
     x5: u16,

@@ -5,19 +5,19 @@ ghost use Rattle.std.specs.Prelude.{◌≡◌};
 ghost use Rattle.level_lookup.specs.LevelLookup.{zero_levels, lookup_of};
 
 // LvlLookup[ segment ][ ref ][ mode ], flat: at segment times 8 plus reference times 2 plus mode type.
-#[derive(Drop)]
-pub struct lvl_lookup {
+#[derive(Clone, Copy)]
+pub struct LvlLookup {
     pub levels: [u8; 64],
 }
 
 // What stands in a table: a level, or nothing where there is no such entry.
-#[derive(Drop)]
+#[derive(Clone, Copy)]
 pub enum Lookup {
     Found(u8),
     Nothing,
 }
 
-impl lvl_lookup {
+impl LvlLookup {
     pub const MAX_SEGMENTS: usize = 8;
 
     pub const MAX_REF_FRAMES: usize = 4;
@@ -29,7 +29,7 @@ impl lvl_lookup {
     pub fn zeros() -> Self
         ensures { result.levels ≡ zero_levels }
     {
-        lvl_lookup { levels: [0u8; 64] }
+        LvlLookup { levels: [0u8; 64] }
     }
 
     pub fn get(self, segment_id: usize, ref_frame: i32, mode: usize) -> Lookup
@@ -44,17 +44,17 @@ impl lvl_lookup {
 pub fn find_level(levels: &[u8; 64], segment_id: usize, ref_frame: i32, mode: usize) -> Lookup
     ensures { result ≡ lookup_of levels.now segment_id ref_frame mode }
 {
-    if lvl_lookup::MAX_SEGMENTS <= segment_id {
+    if LvlLookup::MAX_SEGMENTS <= segment_id {
         return Lookup::Nothing;
     }
-    if lvl_lookup::MAX_MODE_LF_DELTAS <= mode {
+    if LvlLookup::MAX_MODE_LF_DELTAS <= mode {
         return Lookup::Nothing;
     }
     if ref_frame < 0 {
         return Lookup::Nothing;
     }
     let r = ref_frame as usize;
-    if lvl_lookup::MAX_REF_FRAMES <= r {
+    if LvlLookup::MAX_REF_FRAMES <= r {
         return Lookup::Nothing;
     }
     let at = segment_id * 8 + r * 2 + mode;

@@ -10,7 +10,7 @@ ghost use Rattle.levels.specs.Levels.{clipped_level, lvl_seg, delta_lvl, entry_l
 use frame_header::{
     Deltas, LoopFilterParams, SegmentationParams, resolve_lf_deltas, seg_feature_active,
 };
-use level_lookup::lvl_lookup;
+use level_lookup::LvlLookup;
 
 // The segmentation feature that carries a level.
 pub const SEG_LVL_ALT_L: usize = 1;
@@ -120,17 +120,17 @@ fn store_table(levels: &mut [u8], lf: LoopFilterParams, seg: SegmentationParams,
 }
 
 // What became of a level table: it was made, or refused for a frame level above 63.
-#[derive(Drop)]
+#[derive(Clone, Copy)]
 pub enum LevelAnswer {
     Done,
     Level,
 }
 
 // The answer, with the table beside it: all zero where the frame level was refused.
-#[derive(Drop)]
+#[derive(Clone, Copy)]
 pub struct FrameInit {
     pub answer: LevelAnswer,
-    pub table: lvl_lookup,
+    pub table: LvlLookup,
 }
 
 // The level table for deltas that are resolved.
@@ -141,17 +141,17 @@ pub fn loop_filter_frame_init(
 ) -> FrameInit
     ensures { Answers (frame_init lf seg deltas) (returned_of result.answer) zero_levels result.table.levels }
 {
-    if lvl_lookup::MAX_LOOP_FILTER < lf.level {
+    if LvlLookup::MAX_LOOP_FILTER < lf.level {
         return FrameInit {
             answer: LevelAnswer::Level,
-            table: lvl_lookup::zeros(),
+            table: LvlLookup::zeros(),
         };
     }
     let mut levels = [0u8; 64];
     store_table(&mut levels, lf, seg, deltas);
     FrameInit {
         answer: LevelAnswer::Done,
-        table: lvl_lookup { levels },
+        table: LvlLookup { levels },
     }
 }
 

@@ -20,7 +20,7 @@ use narrow::narrow_filter;
 use wide_filter::{wide_filter_fourteen, wide_filter_six};
 
 // What became of a line: it was filtered, or refused.
-#[derive(Drop)]
+#[derive(Clone, Copy)]
 pub enum LineAnswer {
     Done,
     Depth,

@@ -9,7 +9,7 @@ use window::WindowShape;
 
 // The numbers of springspade_pass behind its window: the frame's, the superblock's, and which plane and pass.
 #[repr(C)]
-#[derive(Drop)]
+#[derive(Clone, Copy)]
 pub struct PassNumbers {
     // 0 to 7.
     pub sharpness: u8,

@@ -9,7 +9,7 @@ use record_row::{RowNumbers, row_records};
 use row::RowAnswer;
 
 // The row's answer, and the array as the row left it.
-#[derive(Drop)]
+#[derive(Clone, Copy)]
 pub struct RowMade {
     pub answer: RowAnswer,
     pub records: [CellRecord; 24],

@@ -42,7 +42,7 @@ fn store_records_unchecked(words: &[u32], count: usize, records: &mut [CellRecor
 
 // The numbers of springspade_row: the frame's, and the row's.
 #[repr(C)]
-#[derive(Drop)]
+#[derive(Clone, Copy)]
 pub struct RowNumbers {
     // 0 to 7.
     pub sharpness: u8,

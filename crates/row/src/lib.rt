@@ -18,7 +18,7 @@ use geometry::{bad_frame_size, bad_start, bad_subsampling, cell_count_unchecked}
 use word::word_unchecked;
 
 // What became of a row: it was made, or refused.
-#[derive(Drop)]
+#[derive(Clone, Copy)]
 pub enum RowAnswer {
     Done,
     Sharpness,

@@ -25,7 +25,7 @@ use sheet_lines::{print_first_unchecked, print_refusal_unchecked};
 use word_bytes::words_at_unchecked;
 
 // How many bytes of text were written, or that the buffer has too little room.
-#[derive(Drop)]
+#[derive(Clone, Copy)]
 pub enum SheetAnswer {
     Written(usize),
     Room,

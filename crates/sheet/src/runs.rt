@@ -16,7 +16,7 @@ use pass_edges::edge_count;
 use sheet_lines::print_run_unchecked;
 
 // Where the text ends, and the run that may still grow.
-#[derive(Drop)]
+#[derive(Clone, Copy)]
 pub(crate) struct Printed {
     pub at: usize,
     pub pending: EdgeRun,

@@ -8,7 +8,7 @@ use word_bytes::word_at_unchecked;
 
 // MiCols and MiRows, subsampling, sharpness, depth (0 where the code is none), plane, pass, row base and column in cells, and
 // the spare bits.
-#[derive(Drop)]
+#[derive(Clone, Copy)]
 pub struct SheetHeader {
     pub cols: usize,
     pub rows: usize,

@@ -18,7 +18,7 @@ pub const ZEROMV: u8 = 12;
 pub const NEWMV: u8 = 13;
 
 // What the line filter is set by.
-#[derive(Drop)]
+#[derive(Clone, Copy)]
 pub struct FilterStrength {
     pub lvl: u8,
     pub limit: u8,
@@ -27,7 +27,7 @@ pub struct FilterStrength {
 }
 
 // The strength, or the refusal of a sharpness above 7 or a level above 63.
-#[derive(Drop)]
+#[derive(Clone, Copy)]
 pub enum StrengthAnswer {
     Done(FilterStrength),
     Sharpness,

@@ -19,7 +19,7 @@ const CELLS: usize = 32;
 const SAMPLES: usize = 640;
 
 // The form in which the pass is called: over words, over a window record, over cell records.
-#[derive(Drop)]
+#[derive(Clone, Copy)]
 pub(crate) enum Form {
     Words,
     Window,

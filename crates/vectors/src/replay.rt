@@ -12,7 +12,7 @@ use libc::STDOUT_FILENO;
 const MOST_RECORDS: u64 = 100000;
 
 // What a file's records are.
-#[derive(Drop)]
+#[derive(Clone, Copy)]
 pub(crate) enum Kind {
     Levels,
     Strength,
@@ -31,7 +31,7 @@ pub(crate) enum Kind {
 // A record stands at the start: with one length for all kinds, one loop reads them all.
 pub(crate) type Record = [u8; 4096];
 
-#[derive(Drop)]
+#[derive(Clone, Copy)]
 enum Outcome {
     Equal,
     Different,
@@ -39,7 +39,7 @@ enum Outcome {
 }
 
 // The first different record is counted from 0.
-#[derive(Drop)]
+#[derive(Clone, Copy)]
 struct Tally {
     records: u64,
     equal: u64,

@@ -9,7 +9,7 @@ ghost use Rattle.window.specs.WindowLaws.{Lent, uncountable};
 // Rows of a plane's samples in a list that a caller lends: height rows of width samples, stride apart, the first of them at the
 // plane's row top, which document 01 calls y origin.
 #[repr(C)]
-#[derive(Drop)]
+#[derive(Clone, Copy)]
 pub struct WindowShape {
     pub width: usize,
     pub height: usize,

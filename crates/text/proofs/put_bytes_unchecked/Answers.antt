@@ -14,7 +14,7 @@ loop-k-init c = (omega arith, omega arith, written_none _ _)
 pub loop-k-preserved : goal.loop-k-preserved
 loop-k-preserved c =
     let call = c.put_byte_unchecked-end in
-    let at-loop = c.before.before.before.before.before.before.before in
+    let at-loop = c in
     let a = at-loop.args in
     let l = at-loop.loop-k in (
       omega arith,
