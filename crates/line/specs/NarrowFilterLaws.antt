@@ -1,6 +1,6 @@
 -- Laws of the narrow filter's numbers.
 -- Assumes nothing.
-use Rattle.std.specs.Prelude.{◌≡◌, List, ◌++◌, ◌⊎◌, Bool, true, false, cond, ℕ, suc, ◌+◌, ◌-◌, ◌*◌, ◌^◌, ◌≤◌, ◌<◌, T, ℤ, pos, negsuc, neg_ℤ, nat_abs, ◌+ℤ◌, ◌-ℤ◌, length, set}
+use Rattle.std.specs.Prelude.{◌≡◌, List, ◌++◌, ◌⊎◌, Bool, true, false, cond, ℕ, suc, ◌+◌, ◌-◌, ◌*◌, ◌^◌, ◌≤◌, ◌<◌, T, ℤ, pos, negsuc, neg_ℤ, nat_abs, ◌+ℤ◌, ◌-ℤ◌, length, set, zero}
 use Rattle.std.proofs.Common.{◌∙◌, ⊎_elim, length-set, get_or-set_other, le-ltb}
 use native.Mathlib.Omega.{arith}
 use Rattle.std.proofs.Math.IntN.{+ℤ_idl}
@@ -14,6 +14,7 @@ use Rattle.line.specs.NarrowFilter.{c, offset, sample, narrow_filter}
 use Rattle.wide_filter.specs.Taps.{tap, Within, Agree, agree_p, agree_q, agree_front}
 
 neg_small : (n m : ℕ) → 0 < n → n ≤ m → mag (neg_ℤ (pos n)) < m
+neg_small zero m p q = elim p [ ]
 neg_small (suc n) m p q = q
 
 one_less : (n : ℕ) → 0 < n → pos n -ℤ pos 1 ≡ pos (n - 1)

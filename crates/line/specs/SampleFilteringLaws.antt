@@ -47,10 +47,12 @@ changes_narrow false (suc zero) = omega arith
 changes_narrow false (suc (suc n)) = omega arith
 
 changes-six : (size : ℕ) → 1 ≤ size → 3 ≤ changes size
+changes-six zero h = elim h [ ]
 changes-six (suc zero) h = omega arith
 changes-six (suc (suc n)) h = omega arith
 
 changes-fourteen : (size : ℕ) → 2 ≤ size → 7 ≤ changes size
+changes-fourteen zero h = elim h [ ]
 changes-fourteen (suc zero) h = absurd (omega arith)
 changes-fourteen (suc (suc n)) h = omega arith
 
@@ -60,6 +62,7 @@ reads_small (suc zero) = omega arith
 reads_small (suc (suc n)) = omega arith
 
 reads_all : (size : ℕ) → 2 ≤ size → 8 ≤ reads size
+reads_all zero h = elim h [ ]
 reads_all (suc zero) h = absurd (omega arith)
 reads_all (suc (suc n)) h = omega arith
 

@@ -24,6 +24,7 @@ module _ {A : Type 0} where
   mem_keep false m = Memᴰ.tail m
 
   pub select_mem : (t : A → Bool) (l : List A) {x : A} → Memᴰ x (select t l) → Memᴰ x l
+  select_mem t [] {x = x} m = elim m [ ]
   select_mem t (a ∷ l) {x} m = go (mem_keep (t a) m) (select_mem t l)
     where
       go : Memᴰ x (a ∷ select t l) → (Memᴰ x (select t l) → Memᴰ x l) → Memᴰ x (a ∷ l)
@@ -35,6 +36,7 @@ module _ {A : Type 0} where
   before_keep false r = Before-later r
 
   pub select_before : (t : A → Bool) (l : List A) {x y : A} → Before x y (select t l) → Before x y l
+  select_before t [] {x = x} {y = y} r = elim r [ ]
   select_before t (a ∷ l) {x} {y} r = go (before_keep (t a) r) (select_before t l)
     where
       go : Before x y (a ∷ select t l) → (Before x y (select t l) → Before x y l) → Before x y (a ∷ l)
@@ -54,6 +56,7 @@ module _ {A : Type 0} where
   mem_select t (Memᴰ.tail {x = a} m) u = keep_tail (t a) a (mem_select t m u)
 
   pub select_passes : (t : A → Bool) (l : List A) {x : A} → Memᴰ x (select t l) → T (t x)
+  select_passes t [] {x = x} m = elim m [ ]
   select_passes t (a ∷ l) {x} m = go (t a) refl m (select_passes t l)
     where
       go : (b : Bool) → t a ≡ b → Memᴰ x (keep_if b a (select t l)) → (Memᴰ x (select t l) → T (t x)) → T (t x)
@@ -144,6 +147,7 @@ module _ {A : Type 0} (mk : ℕ → ℕ → A) where
     pub to : i < i₁
 
   pub strip_mem : (e i n : ℕ) {x : A} → Memᴰ x (strip e i n) → Cell x e (suc e) i (i + n)
+  strip_mem e i zero x3 = elim x3 [ ]
   strip_mem e i (suc n) (Memᴰ.head d) = record { e = e; i = i; is = d; low = omega arith; high = omega arith; from = omega arith; to = omega arith }
   strip_mem e i (suc n) (Memᴰ.tail m) =
       let r = strip_mem e (suc i) n m in
@@ -158,6 +162,7 @@ module _ {A : Type 0} (mk : ℕ → ℕ → A) where
       go (no f) ih = Memᴰ.tail (ih (omega arith) (omega arith))
 
   strips_mem : (e n k : ℕ) {x : A} → Memᴰ x (strips e n k) → Cell x e (e + n) 0 k
+  strips_mem e zero k {x = x} m = elim m [ ]
   strips_mem e (suc n) k {x} m = go (Memᴰ.append_cases (strip e 0 k) m) (strips_mem (suc e) n k)
     where
       go : Memᴰ x (strip e 0 k) ⊎ Memᴰ x (strips (suc e) n k) → (Memᴰ x (strips (suc e) n k) → Cell x (suc e) (suc e + n) 0 k) → Cell x e (e + suc n) 0 k
@@ -208,6 +213,7 @@ module _ {A : Type 0} (mk : ℕ → ℕ → A) where
   -- a relation that holds from a pair to each later one of its strip, and to all of the later strips, holds along the grid
   module _ (R : A → A → Type 0) (along : (e i j : ℕ) → i < j → R (mk e i) (mk e j)) (down : (e f i j : ℕ) → e < f → R (mk e i) (mk f j)) where
     strip_before : (e i n : ℕ) {x y : A} → Before x y (strip e i n) → R x y
+    strip_before e i zero {x = x} {y = y} x3 = elim x3 [ ]
     strip_before e i (suc n) {x} {y} (Before-now d m) =
         let r = strip_mem e (suc i) n m in
         let same : r.e ≡ e = omega arith in
@@ -215,6 +221,7 @@ module _ {A : Type 0} (mk : ℕ → ℕ → A) where
     strip_before e i (suc n) (Before-later q) = strip_before e (suc i) n q
 
     strips_before : (e n k : ℕ) {x y : A} → Before x y (strips e n k) → R x y
+    strips_before e zero k {x = x} {y = y} r = elim r [ ]
     strips_before e (suc n) k {x} {y} r = go (before_append (strip e 0 k) (strips (suc e) n k) r) (strips_before (suc e) n k)
       where
         go : Halves x y (strip e 0 k) (strips (suc e) n k) → (Before x y (strips (suc e) n k) → R x y) → R x y

@@ -45,6 +45,7 @@ module _ (b n : ℕ) (t : List ℕ) (i : ℤ) (h : n ≤ 7) (w : Within b t) whe
   -- and past it, which counts twice
   sum_high : (m : ℕ) → n < m → sum_to n t i m + suc m ≤ b * suc m
   unfolding sum_to
+  sum_high zero g = elim g [ ]
   sum_high (suc m) g =
       ⊎_elim
       (λ (q : n < m).

@@ -1,0 +1,15 @@
+use borrow.Author.Rules.{rules}
+use mathlib.Core.Path.{◌≡◌, sym, ◌∙◌}
+use Prim.Native.Nat.{◌-◌, ◌≤◌}
+use native.Mathlib.Nat.{sub_self, sub-zero}
+use native.Mathlib.Omega.{arith}
+use Rattle.base.specs.First.{first_from, first, first_here, first_next, first_end}
+use Rattle.word_bytes.specs.WordBytes.{words_of}
+use Rattle.bad_words.specs.BadWord.{bad_cell}
+use Rattle.bad_words.proofs.bytes.first_bad_word_bytes_unchecked.Given as goal
+
+abbrev pub invariant-loop-k : goal.invariant-loop-k
+invariant-loop-k l = (l.k ≤ l.count) × (first_from (bad_cell (words_of l.bytes)) l.k (l.count - l.k) ≡ first (bad_cell (words_of l.bytes)) l.count)
+
+abbrev pub decreases-loop-k : goal.decreases-loop-k
+decreases-loop-k l = l.count - l.k

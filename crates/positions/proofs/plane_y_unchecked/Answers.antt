@@ -1,0 +1,12 @@
+use borrow.Author.Rules.{rules}
+use native.Mathlib.Omega.{arith}
+use Rattle.geometry.specs.CoordinatesLaws.{shr_small}
+use Rattle.positions.specs.Positions.{plane_y}
+use Rattle.positions.proofs.plane_y_unchecked.Goals as goal
+
+pub returns : goal.returns
+unfolding plane_y
+returns c =
+    let luma = c.luma_y_unchecked in
+    let small = shr_small luma.result.0 c.args.s.suby in
+    (rw (c.in_plane.ensures, luma.ensures.0), omega (arith, small, c.in_plane.ensures, luma.ensures.1))

@@ -1,0 +1,30 @@
+use mathlib.Core.Path.{◌≡◌, refl}
+use native.Mathlib.Omega.{arith}
+use Prim.Native.Nat.{ℕ, ◌+◌, ◌*◌, ◌/◌, ◌%◌, ◌≤◌, ◌<◌}
+use Rattle.base.specs.Entries.{entry}
+use Rattle.base.specs.Notation.{clip3}
+use Rattle.strength.specs.Strength.{limit_of}
+use Rattle.strength.proofs.limits_table.Goals as goal
+
+-- The table's rule: one test that is computed over its 512 entries, and the rule's law at the entry read.
+-- Assumes nothing.
+-- the limit at a place of the table
+limit_at : ℕ → ℕ
+limit_at k = limit_of (k % 64) (k / 64)
+
+placed : (lvl sharpness : ℕ) → lvl ≤ 63 → limit_at (sharpness * 64 + lvl) ≡ limit_of lvl sharpness
+unfolding limit_at
+placed lvl sharpness h = rw (level, sharp)
+  where
+    level : (sharpness * 64 + lvl) % 64 ≡ lvl
+    level = omega arith
+
+    sharp : (sharpness * 64 + lvl) / 64 ≡ sharpness
+    sharp = omega arith
+
+pub returns : goal.returns
+unfolding limit_at limit_of clip3
+returns c = record {
+  long = refl;
+  limit = λ lvl sharpness h k. let below : sharpness * 64 + lvl < 512 = omega arith in rw (entry limit_at) (placed lvl sharpness h);
+}

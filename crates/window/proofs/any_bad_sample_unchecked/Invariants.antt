@@ -1,0 +1,14 @@
+use borrow.Author.Rules.{rules}
+use mathlib.Core.Path.{◌≡◌}
+use Prim.Native.Nat.{◌-◌, ◌*◌, ◌≤◌}
+use native.Mathlib.Omega.{arith}
+use Rattle.base.specs.First.{found}
+use Rattle.window.specs.Window.{bad_sample}
+use Rattle.window.specs.SampleLaws.{row_room, rows_none, rows_more}
+use Rattle.window.proofs.any_bad_sample_unchecked.Given as goal
+
+abbrev pub invariant-loop-row : goal.invariant-loop-row
+invariant-loop-row l = (l.row ≤ l.g.height) × (l.any ≡ found (bad_sample l.g l.bound l.samples) (l.row * l.g.width))
+
+abbrev pub decreases-loop-row : goal.decreases-loop-row
+decreases-loop-row l = l.g.height - l.row
