@@ -8,7 +8,6 @@ use lib.Dec.{eqb}
 use Rattle.chroma_transforms.specs.ChromaTransforms.{ss_size, uv_limit}
 use Rattle.chroma_transforms.specs.ChromaTransformsLaws.{ss_size_lem}
 use Rattle.chroma_transforms.proofs.uv_limit_unchecked.Goals as goal
-use Rattle.chroma_transforms.proofs.uv_limit_unchecked.Tie as tie
 
 pub returns-then-mi_size-lt-BLOCK_8X8 : goal.returns-then-mi_size-lt-BLOCK_8X8
 unfolding uv_limit
@@ -26,13 +25,8 @@ exists c =
     let e = c.ss_size_unchecked-plane_size.ensures in
     ⊎_elim (λ h. absurd (c.if-plane_size-eq-BLOCK_INVALID.false (e ∙ h))) (λ h. rw e h) (ss_size_lem a.mi_size a.subx a.suby)
 
--- TODO other
-module _ (c : tie.After-max-tx-size-unchecked) where
-  abbrev at-if2 : tie.Else2
-  at-if2 = c
-
-  valid : eqb (ss_size at-if2.args.mi_size at-if2.args.subx at-if2.args.suby) 14 ≡ false
-  valid = ne_eqb _ _ (λ h. at-if2.if-plane_size-eq-BLOCK_INVALID.left (at-if2.ss_size_unchecked-plane_size.ensures ∙ h))
+valid : (c : goal.After-max_tx_size_unchecked) → eqb (ss_size c.args.mi_size c.args.subx c.args.suby) 14 ≡ false
+valid c = ne_eqb _ _ (λ h. c.if-plane_size-eq-BLOCK_INVALID.false (c.ss_size_unchecked-plane_size.ensures ∙ h))
 
 pub returns : goal.returns
 unfolding uv_limit
