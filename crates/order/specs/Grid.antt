@@ -51,7 +51,7 @@ module _ {A : Type 0} where
   keep_tail true a m = Memᴰ.tail m
   keep_tail false a m = m
 
-  pub mem_select : (t : A → Bool) {l : List A} {x : A} → Memᴰ x l → T (t x) → Memᴰ x (select t l)
+  pub mem_select : (t : A → Bool) {x : A} {l : List A} → Memᴰ x l → T (t x) → Memᴰ x (select t l)
   mem_select t (Memᴰ.head {x = a} {xs = l} e) u = keep_mem (t a) (select t l) (rw e at u) e
   mem_select t (Memᴰ.tail {x = a} m) u = keep_tail (t a) a (mem_select t m u)
 

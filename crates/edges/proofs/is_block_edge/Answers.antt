@@ -6,21 +6,27 @@ use Rattle.blocks.specs.ModeInfoLaws.{sb_size_small}
 use Rattle.edge_steps.specs.SuperblockFilter.{is_block_edge}
 use Rattle.edges.proofs.is_block_edge.Goals as goal
 use Rattle.edges.proofs.is_block_edge.Tie as tie
+use Rattle.edges.proofs.is_block_edge.Lts as lts
+use Rattle.edges.proofs.is_block_edge.Reads as reads
+
+abbrev at-After-sb_size : Type 0
+at-After-sb_size = lts.After-sb_size tie.the-claims reads.Pre reads.Post
+
+abbrev at-After-sb_size2 : Type 0
+at-After-sb_size2 = lts.After-sb_size2 tie.the-claims reads.Pre reads.Post
 
 -- the raised size is a block's too
-small : (c : goal.After-sb_size) → c.sb_size.result ≤ 12
+small : (c : at-After-sb_size) → c.sb_size.result ≤ 12
 small c = let a = c.args in rw c.sb_size.ensures (sb_size_small a.s.subx a.mi_size c.requires)
 
-small2 : (c : goal.After-sb_size-in-Horizontal) → c.sb_size-in-Horizontal.result ≤ 12
+small2 : (c : at-After-sb_size2) → c.sb_size-in-Horizontal.result ≤ 12
 small2 c = let a = c.args in rw c.sb_size-in-Horizontal.ensures (sb_size_small a.s.suby a.mi_size c.requires)
 
--- TODO lost
-rem-result : tie.Need-nonzero-rem-result
-rem-result c = omega (arith, c.num_8x8_wide_unchecked-wide.ensures, wide_cells _ (small c))
+pub nonzero_rem-result : goal.nonzero_rem-result
+nonzero_rem-result c = omega (arith, c.num_8x8_wide_unchecked-wide.ensures, wide_cells _ (small c.before.before))
 
--- TODO lost
-rem-result-2 : tie.Need-nonzero-rem-result-2
-rem-result-2 c = omega (arith, c.num_8x8_high_unchecked-high.ensures, high_cells _ (small2 c))
+pub nonzero_rem-result-in-Horizontal : goal.nonzero_rem-result-in-Horizontal
+nonzero_rem-result-in-Horizontal c = omega (arith, c.num_8x8_high_unchecked-high.ensures, high_cells _ (small2 c.before.before))
 
 pub returns-in-Vertical : goal.returns-in-Vertical
 unfolding is_block_edge
@@ -34,14 +40,6 @@ pub num_8x8_wide_unchecked-wide-requires : goal.num_8x8_wide_unchecked-wide-requ
 num_8x8_wide_unchecked-wide-requires c =
     small c
 
-pub nonzero_rem-result : goal.nonzero_rem-result
-nonzero_rem-result =
-    rem-result
-
 pub num_8x8_high_unchecked-high-requires : goal.num_8x8_high_unchecked-high-requires
 num_8x8_high_unchecked-high-requires c =
     small2 c
-
-pub nonzero_rem-result-in-Horizontal : goal.nonzero_rem-result-in-Horizontal
-nonzero_rem-result-in-Horizontal =
-    rem-result-2

@@ -14,14 +14,14 @@ luma n e = λ i. record { 0 = e i }
 pub returns : goal.returns
 unfolding edge_facts
 returns c =
-    let cells = c in
-    let at-intra = cells in
-    let at-screen = at-intra in
-    let at-tx = at-screen in
-    let at_y = at-tx in
+    let cells = c.before.before in
+    let at-intra = cells.before.before.before in
+    let at-screen = at-intra.before.before in
+    let at-tx = at-screen.before.before in
+    let at_y = at-tx.before.before in
     let a = at_y.args in
     rw (
-      c.apply_filter_lem.ensures,
+      c.apply_filter.ensures,
       cells.loop_cell_unchecked-2.ensures,
       cells.loop_cell_unchecked.ensures,
       cells.filter_size-size.ensures,
@@ -30,7 +30,7 @@ returns c =
       at-screen.on_screen_unchecked-screen.ensures,
       at-screen.is_32_edge-is_32.ensures,
       at-tx.is_tx_edge_unchecked-transform.ensures,
-      at-tx.is_block_edge_lem.ensures,
+      at-tx.is_block_edge-block.ensures,
       luma (luma_y a.s a.pass a.edge a.i) at_y.luma_y_unchecked-y.ensures.0,
       luma (luma_x a.s a.pass a.edge a.i) at_y.luma_x_unchecked-x.ensures.0,
     )

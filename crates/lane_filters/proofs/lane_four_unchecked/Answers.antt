@@ -1,0 +1,36 @@
+use borrow.Author.Rules.{rules}
+use mathlib.Core.Path.{refl, sym, ◌∙◌}
+use borrow.Author.Tests.{not-true, not-false}
+use Rattle.line.specs.SampleFilteringLaws.{filters_none, filters_narrow}
+use Rattle.lane_filters.specs.LaneSamples.{samples_of}
+use Rattle.lane_filters.proofs.lane_four_unchecked.Goals as goal
+
+pub returns-then-not-lane_mask_unchecked : goal.returns-then-not-lane_mask_unchecked
+returns-then-not-lane_mask_unchecked c =
+    let m = c.before in
+    let a = m.args in
+    filters_none a.depth 0 a.limit a.blimit a.thresh (samples_of a.a) (sym m.lane_mask_unchecked.ensures ∙ c.if-not-lane_mask_unchecked.true)
+
+pub returns : goal.returns
+returns c =
+    let hev = c.before in
+    let m = hev.before.before.before in
+    let a = m.args in
+    (rw (hev.hev_mask-hev.ensures, hev.scaled.ensures.0) at c.narrow_filter.ensures)
+    ∙ filters_narrow a.depth 0 a.limit a.blimit a.thresh (samples_of a.a) (sym m.lane_mask_unchecked.ensures ∙ hev.if-not-lane_mask_unchecked.false) refl
+
+pub lane_mask_unchecked-requires : goal.lane_mask_unchecked-requires
+lane_mask_unchecked-requires c =
+    c.requires
+
+pub scaled-requires : goal.scaled-requires
+scaled-requires c =
+    c.requires.0
+
+pub hev_mask-hev-requires : goal.hev_mask-hev-requires
+hev_mask-hev-requires c =
+    tt
+
+pub narrow_filter-requires : goal.narrow_filter-requires
+narrow_filter-requires c =
+    c.requires

@@ -1,0 +1,112 @@
+use borrow.Author.Rules.{rules}
+use mathlib.Core.Path.{◌≡◌, sym, ◌∙◌}
+use mathlib.Core.Bool.{true, false, not}
+use borrow.Author.Tests.{not-true, not-false}
+use Rattle.base.specs.Depth.{scaled}
+use Rattle.line.specs.Masks.{flat_mask, flat_mask2}
+use Rattle.line.specs.SampleFilteringLaws.{filters_none, filters_narrow, filters-six, filters-fourteen}
+use Rattle.lane_filters.specs.LaneSamples.{samples_of}
+use Rattle.lane_filters.proofs.lane_fourteen_unchecked.Goals as goal
+
+pub returns-then-not-lane_mask_unchecked : goal.returns-then-not-lane_mask_unchecked
+returns-then-not-lane_mask_unchecked c =
+    let m = c.before in
+    let a = m.args in
+    filters_none a.depth 2 a.limit a.blimit a.thresh (samples_of a.a) (sym m.lane_mask_unchecked.ensures ∙ c.if-not-lane_mask_unchecked.true)
+
+pub returns-then-not-flat_mask : goal.returns-then-not-flat_mask
+returns-then-not-flat_mask c =
+    let hev = c.before.before.before in
+    let at-if2 = hev.before.before in
+    let flat = at-if2.before in
+    let m = flat.before.before.before in
+    let a = m.args in
+    let rough : flat_mask (scaled a.depth 1) (samples_of a.a) ≡ false =
+    rw (flat.flat_mask.ensures, flat.scaled.ensures.0) at at-if2.if-not-flat_mask.true in
+    c.with_six.ensures
+    ∙ c.with_four.ensures
+    ∙ (rw (hev.hev_mask-hev.ensures, hev.scaled-then-not-flat_mask.ensures.0) at c.narrow_filter.ensures)
+    ∙ filters_narrow a.depth 2 a.limit a.blimit a.thresh (samples_of a.a) (sym m.lane_mask_unchecked.ensures ∙ flat.if-not-lane_mask_unchecked.false) rough
+
+pub returns-then-not-flat_mask2 : goal.returns-then-not-flat_mask2
+returns-then-not-flat_mask2 c =
+    let at-if3 = c.before.before in
+    let flat2 = at-if3.before in
+    let at-if2 = flat2.before.before in
+    let flat = at-if2.before in
+    let m = flat.before.before.before in
+    let a = m.args in
+    let smooth : flat_mask (scaled a.depth 1) (samples_of a.a) ≡ true =
+    rw (flat.flat_mask.ensures, flat.scaled.ensures.0) at at-if2.if-not-flat_mask.false in
+    let rough : flat_mask2 (scaled a.depth 1) (samples_of a.a) ≡ false =
+    rw (flat2.flat_mask2.ensures, flat2.scaled-2.ensures.0) at at-if3.if-not-flat_mask2.true in
+    c.with_six-then-not-flat_mask2.ensures
+    ∙ c.wide_six_unchecked.ensures
+    ∙ filters-six a.depth 2 a.limit a.blimit a.thresh (samples_of a.a) (sym m.lane_mask_unchecked.ensures ∙ flat.if-not-lane_mask_unchecked.false) smooth rough
+
+pub returns : goal.returns
+returns c =
+    let at-if3 = c.before in
+    let flat2 = at-if3.before in
+    let at-if2 = flat2.before.before in
+    let flat = at-if2.before in
+    let m = flat.before.before.before in
+    let a = m.args in
+    let smooth : flat_mask (scaled a.depth 1) (samples_of a.a) ≡ true =
+    rw (flat.flat_mask.ensures, flat.scaled.ensures.0) at at-if2.if-not-flat_mask.false in
+    let smooth2 : flat_mask2 (scaled a.depth 1) (samples_of a.a) ≡ true =
+    rw (flat2.flat_mask2.ensures, flat2.scaled-2.ensures.0) at at-if3.if-not-flat_mask2.false in
+    c.wide_fourteen_unchecked.ensures
+    ∙ filters-fourteen a.depth 2 a.limit a.blimit a.thresh (samples_of a.a) (sym m.lane_mask_unchecked.ensures ∙ flat.if-not-lane_mask_unchecked.false) smooth smooth2
+
+pub lane_mask_unchecked-requires : goal.lane_mask_unchecked-requires
+lane_mask_unchecked-requires c =
+    c.requires
+
+pub scaled-requires : goal.scaled-requires
+scaled-requires c =
+    c.requires.0
+
+pub flat_mask-requires : goal.flat_mask-requires
+flat_mask-requires c =
+    tt
+
+pub scaled-requires-then-not-flat_mask : goal.scaled-requires-then-not-flat_mask
+scaled-requires-then-not-flat_mask c =
+    c.requires.0
+
+pub hev_mask-hev-requires : goal.hev_mask-hev-requires
+hev_mask-hev-requires c =
+    tt
+
+pub narrow_filter-requires : goal.narrow_filter-requires
+narrow_filter-requires c =
+    c.requires
+
+pub with_four-requires : goal.with_four-requires
+with_four-requires c =
+    tt
+
+pub with_six-requires : goal.with_six-requires
+with_six-requires c =
+    tt
+
+pub scaled-requires-2 : goal.scaled-requires-2
+scaled-requires-2 c =
+    c.requires.0
+
+pub flat_mask2-requires : goal.flat_mask2-requires
+flat_mask2-requires c =
+    tt
+
+pub wide_six_unchecked-requires : goal.wide_six_unchecked-requires
+wide_six_unchecked-requires c =
+    c.requires.1
+
+pub with_six-requires-then-not-flat_mask2 : goal.with_six-requires-then-not-flat_mask2
+with_six-requires-then-not-flat_mask2 c =
+    tt
+
+pub wide_fourteen_unchecked-requires : goal.wide_fourteen_unchecked-requires
+wide_fourteen_unchecked-requires c =
+    c.requires.1

@@ -1,0 +1,71 @@
+use borrow.Author.Rules.{rules}
+use mathlib.Core.Path.{◌≡◌, refl, sym, ◌∙◌}
+use mathlib.Core.Bool.{true, false, not}
+use borrow.Author.Tests.{not-true, not-false}
+use Rattle.base.specs.Depth.{scaled}
+use Rattle.line.specs.Masks.{flat_mask}
+use Rattle.line.specs.SampleFilteringLaws.{filters_none, filters_narrow, filters-six}
+use Rattle.lane_filters.specs.LaneSamples.{samples_of}
+use Rattle.lane_filters.proofs.lane_six_unchecked.Goals as goal
+
+pub returns-then-not-lane_mask_unchecked : goal.returns-then-not-lane_mask_unchecked
+returns-then-not-lane_mask_unchecked c =
+    let m = c.before in
+    let a = m.args in
+    filters_none a.depth 1 a.limit a.blimit a.thresh (samples_of a.a) (sym m.lane_mask_unchecked.ensures ∙ c.if-not-lane_mask_unchecked.true)
+
+pub returns-then-not-flat_mask : goal.returns-then-not-flat_mask
+returns-then-not-flat_mask c =
+    let hev = c.before.before in
+    let at-if2 = hev.before.before in
+    let flat = at-if2.before in
+    let m = flat.before.before.before in
+    let a = m.args in
+    let rough : flat_mask (scaled a.depth 1) (samples_of a.a) ≡ false =
+    rw (flat.flat_mask.ensures, flat.scaled.ensures.0) at at-if2.if-not-flat_mask.true in
+    c.with_four.ensures
+    ∙ (rw (hev.hev_mask-hev.ensures, hev.scaled-then-not-flat_mask.ensures.0) at c.narrow_filter.ensures)
+    ∙ filters_narrow a.depth 1 a.limit a.blimit a.thresh (samples_of a.a) (sym m.lane_mask_unchecked.ensures ∙ flat.if-not-lane_mask_unchecked.false) rough
+
+pub returns : goal.returns
+returns c =
+    let at-if2 = c.before in
+    let flat = at-if2.before in
+    let m = flat.before.before.before in
+    let a = m.args in
+    let smooth : flat_mask (scaled a.depth 1) (samples_of a.a) ≡ true =
+    rw (flat.flat_mask.ensures, flat.scaled.ensures.0) at at-if2.if-not-flat_mask.false in
+    c.wide_six_unchecked.ensures
+    ∙ filters-six a.depth 1 a.limit a.blimit a.thresh (samples_of a.a) (sym m.lane_mask_unchecked.ensures ∙ flat.if-not-lane_mask_unchecked.false) smooth refl
+
+pub lane_mask_unchecked-requires : goal.lane_mask_unchecked-requires
+lane_mask_unchecked-requires c =
+    c.requires
+
+pub scaled-requires : goal.scaled-requires
+scaled-requires c =
+    c.requires.0
+
+pub flat_mask-requires : goal.flat_mask-requires
+flat_mask-requires c =
+    tt
+
+pub scaled-requires-then-not-flat_mask : goal.scaled-requires-then-not-flat_mask
+scaled-requires-then-not-flat_mask c =
+    c.requires.0
+
+pub hev_mask-hev-requires : goal.hev_mask-hev-requires
+hev_mask-hev-requires c =
+    tt
+
+pub narrow_filter-requires : goal.narrow_filter-requires
+narrow_filter-requires c =
+    c.requires
+
+pub with_four-requires : goal.with_four-requires
+with_four-requires c =
+    tt
+
+pub wide_six_unchecked-requires : goal.wide_six_unchecked-requires
+wide_six_unchecked-requires c =
+    c.requires.1

@@ -1,0 +1,13 @@
+use borrow.Author.Rules.{rules}
+use mathlib.Core.Path.{refl}
+use native.Mathlib.Omega.{arith}
+use Rattle.lane_filters.specs.RaisedFilter.{raised_base}
+use Rattle.lane_filters.proofs.narrow.filter_base.Goals as goal
+
+pub returns-then-hev : goal.returns-then-hev
+unfolding raised_base
+returns-then-hev c = (rw c.if-hev.true c.capped.ensures, omega arith)
+
+pub returns-else-hev : goal.returns-else-hev
+unfolding raised_base
+returns-else-hev c = (rw c.if-hev.false, omega arith)

@@ -1,0 +1,8 @@
+use borrow.Author.Rules.{rules}
+use native.Mathlib.Omega.{arith}
+use Rattle.lane_filters.specs.RaisedFilter.{raised_filter}
+use Rattle.lane_filters.proofs.narrow.filter_value.Goals as goal
+
+pub returns : goal.returns
+unfolding raised_filter
+returns c = (c.capped.ensures, omega arith)

@@ -1,0 +1,70 @@
+use borrow.Author.Rules.{rules}
+use Rattle.lane_filters.specs.LaneSamples.{samples_of}
+use Rattle.lane_filters.specs.RaisedFilterLaws.{narrow_high, narrow_low}
+use Rattle.lane_filters.proofs.narrow.narrow_filter.Goals as goal
+
+pub returns-then-hev : goal.returns-then-hev
+returns-then-hev c =
+    let q0 = c.before in
+    let p0 = q0.before in
+    let f2 = p0.before in
+    let f1 = f2.before in
+    let f = f1.before in
+    let b = f.before in
+    let s = b.before in
+    let a = s.args in
+    narrow_high a.depth s.scale-one.result s.requires.0 s.scale-one.ensures.0 a.hev (samples_of a.a) b.filter_base-base.result f.filter_value-filter.result f1.eighth-filter1.result f2.eighth-filter2.result p0.increased-p0.result q0.decreased-q0.result b.filter_base-base.ensures.0 f.filter_value-filter.ensures.0 f1.eighth-filter1.ensures.0 f2.eighth-filter2.ensures.0 p0.increased-p0.ensures q0.decreased-q0.ensures c.if-hev.true
+
+pub returns : goal.returns
+returns c =
+    let p1 = c.before in
+    let g = p1.before in
+    let q0 = g.before.before in
+    let p0 = q0.before in
+    let f2 = p0.before in
+    let f1 = f2.before in
+    let f = f1.before in
+    let b = f.before in
+    let s = b.before in
+    let a = s.args in
+    narrow_low a.depth s.scale-one.result s.requires.0 s.scale-one.ensures.0 a.hev (samples_of a.a) b.filter_base-base.result f.filter_value-filter.result f1.eighth-filter1.result f2.eighth-filter2.result p0.increased-p0.result q0.decreased-q0.result b.filter_base-base.ensures.0 f.filter_value-filter.ensures.0 f1.eighth-filter1.ensures.0 f2.eighth-filter2.ensures.0 p0.increased-p0.ensures q0.decreased-q0.ensures g.if-hev.false g.rounded_half-rounded.result p1.increased-p1.result c.decreased-q1.result g.rounded_half-rounded.ensures.0 p1.increased-p1.ensures c.decreased-q1.ensures
+
+pub scale-one-requires : goal.scale-one-requires
+scale-one-requires c =
+    c.requires.0
+
+pub filter_base-base-requires : goal.filter_base-base-requires
+filter_base-base-requires c =
+    search rules
+
+pub filter_value-filter-requires : goal.filter_value-filter-requires
+filter_value-filter-requires c =
+    search rules
+
+pub eighth-filter1-requires : goal.eighth-filter1-requires
+eighth-filter1-requires c =
+    search rules
+
+pub eighth-filter2-requires : goal.eighth-filter2-requires
+eighth-filter2-requires c =
+    search rules
+
+pub increased-p0-requires : goal.increased-p0-requires
+increased-p0-requires c =
+    search rules
+
+pub decreased-q0-requires : goal.decreased-q0-requires
+decreased-q0-requires c =
+    search rules
+
+pub rounded_half-rounded-requires : goal.rounded_half-rounded-requires
+rounded_half-rounded-requires c =
+    search rules
+
+pub increased-p1-requires : goal.increased-p1-requires
+increased-p1-requires c =
+    search rules
+
+pub decreased-q1-requires : goal.decreased-q1-requires
+decreased-q1-requires c =
+    search rules

@@ -1,0 +1,19 @@
+use borrow.Author.Rules.{rules}
+use mathlib.Core.Path.{◌≡◌}
+use Prim.Native.Nat.{◌-◌, ◌≤◌}
+use native.Mathlib.Omega.{arith}
+use Rattle.base.specs.First.{found, found-start, found_more}
+use Rattle.row.specs.Row.{bad_level}
+use Rattle.row.proofs.faults.any_bad_level.Goals as goal
+
+pub loop-k-init : goal.loop-k-init
+loop-k-init c = (omega arith, found-start (bad_level c.args.levels.now))
+
+pub loop-k-preserved : goal.loop-k-preserved
+loop-k-preserved c =
+    let a = c.args in
+    let loop = c.loop-k in
+    (omega arith, rw loop.invariant.1 (found_more (bad_level a.levels.now) loop.k))
+
+pub returns : goal.returns
+returns c = let all : c.loop-k.k ≡ 64 = omega arith in rw all at c.loop-k.invariant.1
