@@ -1,7 +1,7 @@
 use borrow.Author.Rules.{rules}
 use mathlib.Core.Path.{◌≡◌, refl, sym, ◌∙◌}
 use mathlib.Core.Bool.{true, false, not}
-use borrow.Author.Tests.{not-true, not-false}
+use Rattle.std.proofs.lemmas.Bool.{not_from_false, not_from_true}
 use Rattle.base.specs.Depth.{scaled}
 use Rattle.line.specs.Masks.{flat_mask}
 use Rattle.line.specs.SampleFilteringLaws.{filters_none, filters_narrow, filters-six}
@@ -21,8 +21,7 @@ returns-then-not-flat_mask c =
     let flat = at-if2.before in
     let m = flat.before.before.before in
     let a = m.args in
-    let rough : flat_mask (scaled a.depth 1) (samples_of a.a) ≡ false =
-    rw (flat.flat_mask.ensures, flat.scaled.ensures.0) at at-if2.if-not-flat_mask.true in
+    let rough : not (flat_mask (scaled a.depth 1) (samples_of a.a)) ≡ true = not_from_false _ (rw (flat.flat_mask.ensures, flat.scaled.ensures.0) at at-if2.if-not-flat_mask.true) in
     c.with_four.ensures
     ∙ (rw (hev.hev_mask-hev.ensures, hev.scaled-then-not-flat_mask.ensures.0) at c.narrow_filter.ensures)
     ∙ filters_narrow a.depth 1 a.limit a.blimit a.thresh (samples_of a.a) (sym m.lane_mask_unchecked.ensures ∙ flat.if-not-lane_mask_unchecked.false) rough
@@ -33,8 +32,7 @@ returns c =
     let flat = at-if2.before in
     let m = flat.before.before.before in
     let a = m.args in
-    let smooth : flat_mask (scaled a.depth 1) (samples_of a.a) ≡ true =
-    rw (flat.flat_mask.ensures, flat.scaled.ensures.0) at at-if2.if-not-flat_mask.false in
+    let smooth : not (flat_mask (scaled a.depth 1) (samples_of a.a)) ≡ false = not_from_true _ (rw (flat.flat_mask.ensures, flat.scaled.ensures.0) at at-if2.if-not-flat_mask.false) in
     c.wide_six_unchecked.ensures
     ∙ filters-six a.depth 1 a.limit a.blimit a.thresh (samples_of a.a) (sym m.lane_mask_unchecked.ensures ∙ flat.if-not-lane_mask_unchecked.false) smooth refl
 
