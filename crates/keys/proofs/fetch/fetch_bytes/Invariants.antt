@@ -1,0 +1,15 @@
+use borrow.Author.Rules.{rules}
+use mathlib.Core.Path.{◌≡◌}
+use Prim.Native.Nat.{◌-◌, ◌*◌, ◌≤◌}
+use native.Mathlib.Omega.{arith}
+use Rattle.base.specs.Filled.{filled, filled_none}
+use Rattle.word_bytes.specs.WordBytes.{words_of}
+use Rattle.keys.specs.PlainKeys.{word_in}
+use Rattle.keys.specs.PlainKeysLaws.{more_words, some_cells}
+use Rattle.keys.proofs.fetch.fetch_bytes.Given as goal
+
+abbrev pub invariant-loop-e : goal.invariant-loop-e
+invariant-loop-e l = (l.e ≤ l.count) × (l.words ≡ filled (word_in l.t (words_of l.cells)) 0 (8 * l.e) l.initial.words)
+
+abbrev pub decreases-loop-e : goal.decreases-loop-e
+decreases-loop-e l = l.count - l.e

@@ -1,0 +1,15 @@
+use borrow.Author.Rules.{rules}
+use mathlib.Core.Path.{◌≡◌}
+use Prim.Native.Nat.{◌-◌, ◌*◌, ◌≤◌}
+use native.Mathlib.Omega.{arith}
+use Rattle.base.specs.Filled.{filled, filled_none, filled_more}
+use Rattle.keys.specs.PlainKeys.{word_from}
+use Rattle.keys.specs.PlainKeysLaws.{word_of_pair}
+use Rattle.keys.proofs.fetch.fetch_pair.Given as goal
+
+abbrev pub invariant-loop-c : goal.invariant-loop-c
+invariant-loop-c l =
+    (l.c ≤ 8) × (l.words ≡ filled (word_from l.base l.paired l.along l.cells) (8 * l.e) l.c l.initial.words)
+
+abbrev pub decreases-loop-c : goal.decreases-loop-c
+decreases-loop-c l = 8 - l.c

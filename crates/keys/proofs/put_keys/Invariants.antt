@@ -1,0 +1,20 @@
+use borrow.Author.Rules.{rules}
+use mathlib.Core.Path.{◌≡◌}
+use Prim.Native.Nat.{◌-◌, ◌*◌, ◌≤◌}
+use native.Mathlib.Nat.{add-zero}
+use native.Mathlib.Omega.{arith}
+use Rattle.base.specs.Filled.{filled, filled_none}
+use Rattle.base.specs.First.{found, found-start}
+use Rattle.keys.specs.PlainKeys.{plain_key, plain_lack}
+use Rattle.keys.specs.PlainKeysLaws.{more_keys, more_lacks}
+use Rattle.keys.proofs.put_keys.Given as goal
+
+abbrev pub invariant-loop-e : goal.invariant-loop-e
+invariant-loop-e l =
+    (l.e ≤ l.count)
+    × (l.outer ≡ filled (plain_key l.t l.words 0) 0 (8 * l.e) l.initial.outer)
+    × (l.inner ≡ filled (plain_key l.t l.words 1) 0 (8 * l.e) l.initial.inner)
+    × (l.lacking ≡ found (plain_lack l.t l.words) (8 * l.e))
+
+abbrev pub decreases-loop-e : goal.decreases-loop-e
+decreases-loop-e l = l.count - l.e

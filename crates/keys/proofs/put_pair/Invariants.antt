@@ -1,0 +1,18 @@
+use borrow.Author.Rules.{rules}
+use mathlib.Core.Path.{◌≡◌}
+use Prim.Native.Nat.{◌+◌, ◌-◌, ◌*◌, ◌%◌, ◌≤◌}
+use native.Mathlib.Omega.{arith}
+use Rattle.base.specs.Filled.{filled, filled_none, filled_more}
+use Rattle.base.specs.First.{found, found-start, found_more}
+use Rattle.keys.specs.PlainKeys.{key_by, lack_by}
+use Rattle.keys.proofs.put_pair.Given as goal
+
+abbrev pub invariant-loop-c : goal.invariant-loop-c
+invariant-loop-c l =
+    (l.c ≤ 8)
+    × (l.outer ≡ filled (key_by l.n l.log l.tx l.words) (8 * l.e) l.c l.initial.outer)
+    × (l.inner ≡ filled (key_by l.m l.log l.tx l.words) (8 * l.e) l.c l.initial.inner)
+    × (l.lacking ≡ found (λ j. lack_by l.n l.m l.log l.tx l.words (8 * l.e + j)) l.c)
+
+abbrev pub decreases-loop-c : goal.decreases-loop-c
+decreases-loop-c l = 8 - l.c
