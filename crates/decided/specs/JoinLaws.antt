@@ -73,12 +73,14 @@ joined_length (a ∷ l) = joining_length (joining a l)
 module _ (P : EdgeRun → Type 0) (more : (a b : EdgeRun) → Joins a b → P a → P b → P (longer a b.count)) where
   joining_all : {a : EdgeRun} {l r : List EdgeRun} → Joining a l r → P a → ((b : EdgeRun) → Memᴰ b l → P b)
       → (x : EdgeRun) → Memᴰ x r → P x
+  joining_all (Joining-end {a = a}) p h x (mathlib.Core.List.Memᴰ.tail m) = elim m [ ]
   joining_all Joining-end p h x (Memᴰ.head e) = rw e p
   joining_all (Joining-join {a} {b} j k) p h x m = joining_all k (more a b j p (h b (Memᴰ.head refl))) (λ y i. h y (Memᴰ.tail i)) x m
   joining_all (Joining-part n k) p h x (Memᴰ.head e) = rw e p
   joining_all (Joining-part {b = b} n k) p h x (Memᴰ.tail m) = joining_all k (h b (Memᴰ.head refl)) (λ y i. h y (Memᴰ.tail i)) x m
 
   pub joined_all : (l : List EdgeRun) → ((a : EdgeRun) → Memᴰ a l → P a) → (x : EdgeRun) → Memᴰ x (joined l) → P x
+  joined_all [] h x m = elim m [ ]
   joined_all (a ∷ l) h x m = joining_all (joining a l) (h a (Memᴰ.head refl)) (λ b i. h b (Memᴰ.tail i)) x m
 
 -- ---- the positions stay as they are, in their order
@@ -142,10 +144,12 @@ module _ {len : ℕ} where
   parted {b = b} n (Chain-goes e f c) = inr (record { next = b; among = Memᴰ.head refl; edge = e; first = f; apart = n })
 
   joining_stops : {a : EdgeRun} {l r : List EdgeRun} → Joining a l r → Chain len (a ∷ l) → (x : EdgeRun) → Memᴰ x r → Stopped len l x
+  joining_stops (Joining-end {a = a}) (Chain-ends h c) x (mathlib.Core.List.Memᴰ.tail m) = elim m [ ]
   joining_stops Joining-end (Chain-ends h c) x (Memᴰ.head e) = rw e (inl h)
   joining_stops (Joining-join j k) c x m = later (joining_stops k (chain_longer j (chain_tail c)) x m)
   joining_stops (Joining-part n k) c x (Memᴰ.head e) = rw e (parted n c)
   joining_stops (Joining-part n k) c x (Memᴰ.tail m) = later (joining_stops k (chain_tail c) x m)
 
   pub joined_stops : (l : List EdgeRun) → Chain len l → (x : EdgeRun) → Memᴰ x (joined l) → Stopped len l x
+  joined_stops [] c x m = elim m [ ]
   joined_stops (a ∷ l) c x m = later (joining_stops (joining a l) c x m)

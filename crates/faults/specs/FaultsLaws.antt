@@ -33,7 +33,7 @@ pub record Numbers (sharpness : ℕ) (known : Bool) (sub_x sub_y mi_cols mi_rows
   pub plane_known : plane ≤ 2
   pub pass_known : pass ≤ 1
   pub placed_at : (subx suby : Bool) → Placed (record { subx = subx; suby = suby; cols = mi_cols; rows = mi_rows; row = row; col = col })
-  pub cells_lent : cells_from row mi_cols mi_rows ≤ cells_lent
+  pub cells_lent_lem : cells_from row mi_cols mi_rows ≤ cells_lent
 
 pub numbers_passed : {A : Type 0} (sharpness : ℕ) (known : Bool) (sub_x sub_y mi_cols mi_rows row col plane pass cells_lent : ℕ) (after : Outcome A) {result : A}
     → numbers_refused sharpness known sub_x sub_y mi_cols mi_rows row col plane pass cells_lent after ≡ accepted result
@@ -55,7 +55,7 @@ numbers_passed sharpness known sub_x sub_y mi_cols mi_rows row col plane pass ce
         plane_known = ltb-false 2 plane named.0;
         pass_known = ltb-false 1 pass named.1;
         placed_at = λ subx suby. placed (record { subx = subx; suby = suby; cols = mi_cols; rows = mi_rows; row = row; col = col }) t4.0 t5.0 t10.0;
-        cells_lent = ltb-false cells_lent (cells_from row mi_cols mi_rows) t7.0;
+        cells_lent_lem = ltb-false cells_lent (cells_from row mi_cols mi_rows) t7.0;
       },
       t10.1,
     )

@@ -31,7 +31,7 @@ accepted_ready w g sharpness depth sub_x sub_y mi_cols mi_rows row col plane pas
       window = r.lists.window_lent;
       range = tested_range g (2 ^ depth) samples r.lists.samples_good;
       placed = r.numbers.placed_at _ _;
-      cells = r.numbers.cells_lent;
+      cells = r.numbers.cells_lent_lem;
       sharpness = r.numbers.sharpness_fits;
       depth = admits-supported depth w r.numbers.depth_known;
     }

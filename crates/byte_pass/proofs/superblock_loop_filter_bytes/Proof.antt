@@ -32,7 +32,7 @@ test-lists-and-filter-requires c κs =
     let told = c.before.before.before in
     let n = numbers told in
     rw c.before.before.superblock-of.ensures
-    (n.placed_at _ _, rw (words_of-length told.before.before.before.before.before.args.cells.now) at n.cells_lent, n.sharpness_fits)
+    (n.placed_at _ _, rw (words_of-length told.before.before.before.before.before.args.cells.now) at n.cells_lent_lem, n.sharpness_fits)
 
 returns : tie.Need-returns
 unfolding superblock_loop_filter_cells

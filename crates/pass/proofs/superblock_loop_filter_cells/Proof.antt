@@ -23,7 +23,7 @@ test-lists-and-filter-requires c κs =
     let f = told.before.before in
     let a = f.before.before.before.before.args in
     let n = numbers_passed a.sharpness (supported a.depth) a.sub-x a.sub-y a.mi-cols a.mi-rows a.row a.col a.plane a.pass _ _ (passed_on f.number-faults.result _ _ told.enum_told.given.1 (tested f (accepted []))) in
-    rw c.before.before.superblock-of.ensures (n.0.placed_at_lem _ _, n.0.cells_lent, n.0.sharpness_fits, n.0.depth_known)
+    rw c.before.before.superblock-of.ensures (n.0.placed_at_lem _ _, n.0.cells_lent_lem, n.0.sharpness_fits, n.0.depth_known)
 
 returns : tie.Need-returns
 unfolding superblock_loop_filter_cells

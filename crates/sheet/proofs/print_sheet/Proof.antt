@@ -55,7 +55,7 @@ print-words-requires c κs =
     let f = c.before.before.before.number-faults in
     let n = numbers_passed h.result.sharpness (supported h.result.depth) h.result.subx h.result.suby h.result.cols h.result.rows h.result.row h.result.col h.result.plane h.result.pass _ (accepted [])
     ((rw c.before.before.before.before.is-supported.ensures at (f.ensures (accepted []))) ∙ ap (λ r. afterwards r (accepted [])) c.before.enum_told.given.1) in
-    (h.ensures, n.0.placed_at_lem _ _, n.0.cells_lent, header_narrow h.result (good c.before.before.before.before.before), c.before.before.before.before.before.before.before.before.if1.false)
+    (h.ensures, n.0.placed_at_lem _ _, n.0.cells_lent_lem, header_narrow h.result (good c.before.before.before.before.before), c.before.before.before.before.before.before.before.before.if1.false)
 
 returns-3 : tie.Need-returns-3
 returns-3 c =

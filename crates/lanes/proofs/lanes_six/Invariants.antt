@@ -1,0 +1,17 @@
+use borrow.Author.Rules.{rules}
+use mathlib.Core.Path.{◌≡◌}
+use Prim.Native.Nat.{◌-◌, ◌≤◌}
+use native.Mathlib.Omega.{arith}
+use lib.ListN.{length}
+use Rattle.line.specs.SampleFiltering.{sample_filtering}
+use Rattle.lane_filters.specs.LaneSamples.{six_of}
+use Rattle.lanes.specs.Lanes.{LanesTo}
+use Rattle.lanes.specs.LanesLaws.{lanes_none, lanes_all, lane_more, lane_samples, small_in}
+use Rattle.lanes.proofs.lanes_six.Given as goal
+
+abbrev pub invariant-loop-l : goal.invariant-loop-l
+invariant-loop-l l =
+    (l.l ≤ l.n) × (length l.t ≡ 256) × LanesTo l.l (sample_filtering l.depth 1 l.limit l.blimit l.thresh) l.initial.t l.t
+
+abbrev pub decreases-loop-l : goal.decreases-loop-l
+decreases-loop-l l = l.n - l.l
