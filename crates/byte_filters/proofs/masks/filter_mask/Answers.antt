@@ -1,0 +1,14 @@
+use borrow.Author.Rules.{rules}
+use Rattle.line.specs.Masks.{filter_mask}
+use Rattle.byte_filters.proofs.masks.filter_mask.Goals as goal
+
+pub returns : goal.returns
+unfolding filter_mask
+returns c =
+    let near6 = c in
+    let near5 = near6 in
+    let near4 = near5 in
+    let near3 = near4 in
+    let near2 = near3 in
+    let near = near2 in
+    rw (c.small_step.ensures, near6.near-6.ensures, near5.near-5.ensures, near4.near-4.ensures, near3.near-3.ensures, near2.near-2.ensures, near.near.ensures)

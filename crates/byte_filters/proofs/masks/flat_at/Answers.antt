@@ -1,0 +1,5 @@
+use borrow.Author.Rules.{rules}
+use Rattle.byte_filters.proofs.masks.flat_at.Goals as goal
+
+pub returns : goal.returns
+returns c = rw (c.near.ensures, c.near-2.ensures)

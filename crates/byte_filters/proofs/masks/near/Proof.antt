@@ -1,9 +1,0 @@
-use borrow.Author.Rules.{rules}
-use Rattle.byte_filters.proofs.masks.near.Statement.{statement}
-use Rattle.byte_filters.proofs.masks.near.Tie as tie
-
-returns : tie.Need-returns
-returns c = rw c.abs_diff.ensures
-
-pub near-spec : {M : Type 1} → statement M
-near-spec = tie.close (tie.spec (search rules) returns)

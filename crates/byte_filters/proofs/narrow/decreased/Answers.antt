@@ -1,0 +1,12 @@
+use borrow.Author.Rules.{rules}
+use native.Mathlib.Omega.{arith}
+use Rattle.byte_filters.specs.SaturatingLaws.{moved}
+use Rattle.lane_filters.specs.RaisedFilter.{decreased}
+use Rattle.byte_filters.proofs.narrow.decreased.Goals as goal
+
+pub returns : goal.returns
+unfolding decreased
+returns c =
+    let m = c in
+    let a = m.args in
+    rw (c.less-3.ensures, c.less-2.ensures, m.more.ensures, m.less.ensures) (moved a.x a.k a.value (omega arith))

@@ -1,0 +1,8 @@
+use borrow.Author.Rules.{rules}
+use native.Mathlib.Omega.{arith}
+use Rattle.lane_filters.specs.RaisedFilter.{raised_eighth}
+use Rattle.byte_filters.proofs.narrow.eighth.Goals as goal
+
+pub returns : goal.returns
+unfolding raised_eighth
+returns c = (rw c.more.ensures, omega arith)

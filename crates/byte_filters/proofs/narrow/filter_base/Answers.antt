@@ -1,0 +1,19 @@
+use borrow.Author.Rules.{rules}
+use mathlib.Core.Path.{◌∙◌, ap}
+use Prim.Native.Nat.{ℕ, ◌-◌, min}
+use native.Mathlib.Omega.{arith}
+use Rattle.byte_filters.specs.SaturatingLaws.{moved}
+use Rattle.lane_filters.specs.RaisedFilter.{raised_base}
+use Rattle.byte_filters.proofs.narrow.filter_base.Goals as goal
+
+pub returns-then-hev : goal.returns-then-hev
+unfolding raised_base
+returns-then-hev c =
+    let m = c in
+    let a = m.args in
+    rw (c.if-hev.true, c.less-base.ensures, c.less-2.ensures, m.more.ensures, m.less.ensures)
+    (moved 128 a.p1 a.q1 (omega arith) ∙ ap (λ (n : ℕ). min (n - a.q1) 255) (omega arith))
+
+pub returns-else-hev : goal.returns-else-hev
+unfolding raised_base
+returns-else-hev c = rw c.if-hev.false

@@ -1,0 +1,16 @@
+use borrow.Author.Rules.{rules}
+use mathlib.Core.Path.{◌≡◌}
+use mathlib.Core.Bool.{true}
+use Prim.Native.Nat.{◌+◌, ◌-◌, ◌*◌, ◌≤◌, ◌<◌}
+use native.Mathlib.Omega.{arith}
+use lib.ListN.{get_or}
+use Rattle.window.specs.Stencil.{scatter}
+use Rattle.window.specs.StencilLaws.{scatter_none, scatter_more}
+use Rattle.lane_runs.proofs.across.load_lane.Given as goal
+
+abbrev pub invariant-loop-k : goal.invariant-loop-k
+invariant-loop-k l =
+    (l.k ≤ l.m) × (l.t ≡ scatter (λ i. true) (λ i. 16 * (l.lo + i) + l.l) (λ i. get_or l.samples (l.at + (l.lo + i)) 0) l.k l.initial.t)
+
+abbrev pub decreases-loop-k : goal.decreases-loop-k
+decreases-loop-k l = l.m - l.k

@@ -1,0 +1,16 @@
+use borrow.Author.Rules.{rules}
+use mathlib.Core.Path.{◌≡◌, refl}
+use mathlib.Core.Bool.{true}
+use Prim.Native.Nat.{◌+◌, ◌-◌, ◌*◌, ◌≤◌, ◌<◌}
+use native.Mathlib.Omega.{arith}
+use lib.ListN.{length, get_or, length-set}
+use Rattle.window.specs.Stencil.{scatter}
+use Rattle.window.specs.StencilLaws.{scatter_none, scatter_more}
+use Rattle.lane_runs.proofs.across.store_lane.Given as goal
+
+abbrev pub invariant-loop-k : goal.invariant-loop-k
+invariant-loop-k l =
+    (l.k ≤ l.m) × (length l.samples ≡ length l.initial.samples) × (l.samples ≡ scatter (λ i. true) (λ i. l.at + (l.lo + i)) (λ i. get_or l.t (16 * (l.lo + i) + l.l) 0) l.k l.initial.samples)
+
+abbrev pub decreases-loop-k : goal.decreases-loop-k
+decreases-loop-k l = l.m - l.k

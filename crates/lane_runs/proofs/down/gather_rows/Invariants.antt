@@ -1,0 +1,14 @@
+use borrow.Author.Rules.{rules}
+use mathlib.Core.Path.{◌≡◌}
+use Prim.Native.Nat.{◌+◌, ◌-◌, ◌*◌, ◌≤◌, ◌<◌}
+use native.Mathlib.Omega.{arith}
+use lib.ListN.{length}
+use Rattle.lane_runs.specs.Spread.{Loaded}
+use Rattle.lane_runs.specs.SpreadLaws.{loaded_no_taps, loaded_tap}
+use Rattle.lane_runs.proofs.down.gather_rows.Given as goal
+
+abbrev pub invariant-loop-j : goal.invariant-loop-j
+invariant-loop-j l = (l.j ≤ l.m) × Loaded l.at l.step 1 l.n l.lo l.j l.samples l.t
+
+abbrev pub decreases-loop-j : goal.decreases-loop-j
+decreases-loop-j l = l.m - l.j
