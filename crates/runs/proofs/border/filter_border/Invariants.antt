@@ -1,0 +1,19 @@
+use borrow.Author.Rules.{rules}
+use mathlib.Core.Path.{◌≡◌, refl, ◌∙◌}
+use Prim.Native.Nat.{◌-◌, ◌≤◌}
+use native.Mathlib.Omega.{arith}
+use lib.ListN.{length}
+use Rattle.line.specs.SampleFiltering.{sample_filtering}
+use Rattle.window.specs.Stencil.{in_turn}
+use Rattle.window.specs.StencilLaws.{in_turn_none}
+use Rattle.window.specs.Window.{run_of}
+use Rattle.tap_places.specs.TurnLaws.{in_turn_next}
+use Rattle.runs.proofs.border.filter_border.Given as goal
+
+abbrev pub invariant-loop-k : goal.invariant-loop-k
+invariant-loop-k l =
+    (l.k ≤ l.n) × (length l.samples ≡ length l.initial.samples)
+    × (l.samples ≡ in_turn (run_of l.g l.pass l.x l.y (sample_filtering l.depth l.size l.strength.limit l.strength.blimit l.strength.thresh)) l.k l.initial.samples)
+
+abbrev pub decreases-loop-k : goal.decreases-loop-k
+decreases-loop-k l = l.n - l.k
