@@ -1,0 +1,17 @@
+use borrow.Author.Rules.{rules}
+use mathlib.Core.Path.{◌≡◌, refl, ◌∙◌}
+use Prim.Native.Nat.{◌-◌, ◌≤◌}
+use native.Mathlib.Omega.{arith}
+use lib.ListN.{length, get_or}
+use Rattle.window.specs.Stencil.{scatter}
+use Rattle.window.specs.StencilLaws.{scatter_none}
+use Rattle.window.specs.Window.{tap_stored, tap_written}
+use Rattle.tap_places.specs.TurnLaws.{scatter_next}
+use Rattle.byte_border.proofs.store.Given as goal
+
+abbrev pub invariant-loop-k : goal.invariant-loop-k
+invariant-loop-k l =
+    (l.k ≤ 16) × (length l.samples ≡ length l.initial.samples) × (l.samples ≡ scatter (tap_stored l.g l.pass l.x l.y) (tap_written l.g l.pass l.x l.y) (λ j. get_or l.t j 0) l.k l.initial.samples)
+
+abbrev pub decreases-loop-k : goal.decreases-loop-k
+decreases-loop-k l = 16 - l.k

@@ -1,0 +1,24 @@
+use borrow.Author.Rules.{rules}
+use mathlib.Core.Path.{◌≡◌}
+use Prim.Native.Nat.{◌-◌, ◌≤◌}
+use native.Mathlib.Omega.{arith}
+use lib.ListN.{length}
+use Rattle.byte_filters.specs.ByteSamples.{byte_four_of}
+use Rattle.lanes.specs.Lanes.{EachLaneTo}
+use Rattle.lanes.specs.LanesLaws.{lanes_none, lanes_all, lane_more}
+use Rattle.byte_lanes.specs.ByteLanes.{arm_lane, narrow_lane}
+use Rattle.byte_lanes.proofs.lanes_four.Goals as goal
+
+pub loop-l-init : goal.loop-l-init
+loop-l-init c = (omega arith, c.requires, lanes_none c.args.t.now)
+
+pub loop-l-preserved : goal.loop-l-preserved
+loop-l-preserved c =
+    let r = c in
+    let lane = r in
+    let loop = lane.loop-l in
+    let more = lane_more 6 (byte_four_of r.byte_four-r.result) (omega (arith, lane.loop-l-test.true)) (omega arith) loop.invariant.1 loop.invariant.2 lane.lane_at.ensures r.byte_four-r.ensures c.put_four.ensures in
+    (omega (arith, lane.loop-l-test.true), more.0, more.1)
+
+pub returns : goal.returns
+returns c = (lanes_all c.loop-l-test.false c.loop-l.invariant.2, c.loop-l.invariant.1)

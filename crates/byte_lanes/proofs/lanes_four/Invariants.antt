@@ -1,0 +1,16 @@
+use borrow.Author.Rules.{rules}
+use mathlib.Core.Path.{◌≡◌}
+use Prim.Native.Nat.{◌-◌, ◌≤◌}
+use native.Mathlib.Omega.{arith}
+use lib.ListN.{length}
+use Rattle.byte_filters.specs.ByteSamples.{byte_four_of}
+use Rattle.lanes.specs.Lanes.{EachLaneTo}
+use Rattle.lanes.specs.LanesLaws.{lanes_none, lanes_all, lane_more}
+use Rattle.byte_lanes.specs.ByteLanes.{arm_lane, narrow_lane}
+use Rattle.byte_lanes.proofs.lanes_four.Given as goal
+
+abbrev pub invariant-loop-l : goal.invariant-loop-l
+invariant-loop-l l = (l.l ≤ 16) × (length l.t ≡ 256) × EachLaneTo l.l (arm_lane 1 (narrow_lane l.keys) l.arms) l.initial.t l.t
+
+abbrev pub decreases-loop-l : goal.decreases-loop-l
+decreases-loop-l l = 16 - l.l
