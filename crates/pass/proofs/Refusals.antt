@@ -1,26 +1,20 @@
 -- An answer that is not Done is a refusal, and nothing has changed.
 -- Assumes nothing.
-use mathlib.Core.Path.{◌≡◌, refl, ◌∙◌, subst}
+use mathlib.Core.Path.{◌≡◌, refl, ◌∙◌}
 use mathlib.Core.Logic.{⊎_elim}
-use mathlib.Core.List.{List, [], ◌∷◌}
+use mathlib.Core.List.{List}
 use Prim.Native.Nat.{ℕ}
-use types.Run.{OneOf, miss}
-use denote.Enum.Declared.{tag_of}
 use Rattle.base.specs.Outcome.{Outcome, refused, Returned, Answers}
 use Rattle.faults.specs.Faults.{returned_of}
 use Rattle.faults.specs.FaultsLaws.{afterwards, done_or_refused}
 use Rattle.faults.specs.declared.PassAnswer.{PassAnswer}
 use Rattle.faults.specs.declared.PassAnswer.TheVariants.{Done}
-use Rattle.faults.specs.contracts.PassAnswer.{the_type}
 
-abbrev refusals : List ℕ
-refusals = 1 ∷ 2 ∷ 3 ∷ 4 ∷ 5 ∷ 6 ∷ 7 ∷ 8 ∷ 9 ∷ 10 ∷ 11 ∷ 12 ∷ []
-
-not_done : {A : Type 0} (answer : PassAnswer) → OneOf refusals (tag_of the_type answer) → (after : Outcome A) → afterwards answer after ≡ refused (returned_of answer).number (returned_of answer).place
+not_done : {A : Type 0} (answer : PassAnswer) → (answer ≡ Done → ⊥) → (after : Outcome A) → afterwards answer after ≡ refused (returned_of answer).number (returned_of answer).place
 not_done answer k after =
-    ⊎_elim (λ (d : answer ≡ Done). absurd (miss refusals 0 tt (subst (λ (a : PassAnswer). OneOf refusals (tag_of the_type a)) d k))) (λ e. e) (done_or_refused answer after)
+    ⊎_elim (λ (d : answer ≡ Done). absurd (k d)) (λ e. e) (done_or_refused answer after)
 
-pub refused_answer : (answer : PassAnswer) → OneOf refusals (tag_of the_type answer) → (outcome : Outcome (List ℕ)) (samples : List ℕ) (after : Outcome (List ℕ))
+pub refused_answer : (answer : PassAnswer) → (answer ≡ Done → ⊥) → (outcome : Outcome (List ℕ)) (samples : List ℕ) (after : Outcome (List ℕ))
     → outcome ≡ afterwards answer after → Answers outcome (returned_of answer) samples samples
 refused_answer answer k outcome samples after e = rw (e ∙ not_done answer k after) (refl, refl)
 

@@ -27,17 +27,17 @@ test_lists_and_filter-requires c =
     let told = c in
     let f = told in
     let a = f.args in
-    let n = numbers_passed a.sharpness (supported a.depth) a.sub_x a.sub_y a.mi_cols a.mi_rows a.row a.col a.plane a.pass _ _ (passed_on f.number_faults-faults.result _ _ told.in-Done.is (tested f.before.before.before.before.before.before (accepted []))) in
-    rw c.superblock_of-s.ensures (n.0.placed_at_lem _ _, n.0.cells_lent_lem, n.0.sharpness_fits, n.0.depth_known)
+    let n = numbers_passed a.sharpness (supported a.depth) a.sub_x a.sub_y a.mi_cols a.mi_rows a.row a.col a.plane a.pass _ _ (passed_on f.number_faults-faults.result _ _ told.in-Done.is (tested f.before.before.before.before.before (accepted []))) in
+    rw c.superblock_of-s.ensures (n.0.placed_at _ _, n.0.cells_lent_lem, n.0.sharpness_fits, n.0.depth_known)
 
 pub returns-in-Done : goal.returns-in-Done
 unfolding superblock_loop_filter_cells
 returns-in-Done c =
     let told = c in
     let f = told in
-    answers_on _ _ _ _ _ (passed_on f.number_faults-faults.result _ _ told.in-Done.is (tested f.before.before.before.before.before.before.before.before.before _))
+    answers_on _ _ _ _ _ (passed_on f.number_faults-faults.result _ _ told.in-Done.is (tested f.before.before.before.before.before.before.before.before _))
     (rw (c.pass_of.ensures, c.superblock_of-s.ensures) at c.test_lists_and_filter.ensures)
 
 pub returns : goal.returns
 unfolding superblock_loop_filter_cells
-returns c = refused_answer c.number_faults-faults.result c.in_default.keys2 _ _ _ (tested c.before.before _)
+returns c = refused_answer c.number_faults-faults.result c.in_default.not-Done _ _ _ (tested c.before.before _)

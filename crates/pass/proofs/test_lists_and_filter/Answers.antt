@@ -23,7 +23,7 @@ returns-in-Done c =
     answers_on _ _ _ _ _ (passed_on f.result _ _ told.in-Done.is (f.ensures _)) c.test_levels_and_filter.ensures
 
 pub returns : goal.returns
-returns c = refused_answer c.list_faults_unchecked-faults.result c.in_default.keys2 _ _ _ (c.list_faults_unchecked-faults.ensures _)
+returns c = refused_answer c.list_faults_unchecked-faults.result c.in_default.not-Done _ _ _ (c.list_faults_unchecked-faults.ensures _)
 
 pub list_faults_unchecked-faults-requires : goal.list_faults_unchecked-faults-requires
 list_faults_unchecked-faults-requires c =

@@ -1,0 +1,35 @@
+use borrow.Author.Rules.{rules}
+use mathlib.Core.Path.{◌≡◌}
+use mathlib.Core.Bool.{true}
+use Prim.Native.Nat.{◌+◌, ◌-◌, ◌≤◌}
+use native.Mathlib.Omega.{arith}
+use lib.ListN.{get_or, replicate}
+use Rattle.window.specs.Stencil.{scatter}
+use Rattle.window.specs.StencilLaws.{scatter_none, scatter_more}
+use Rattle.byte_rows.proofs.row.entries_at.Goals as goal
+
+pub loop-i-init : goal.loop-i-init
+loop-i-init c = (omega arith, scatter_none _ _ _ _)
+
+pub loop-i-preserved : goal.loop-i-preserved
+loop-i-preserved c =
+    let loop = c.loop-i in
+    let a = c.args in
+    (omega arith, rw loop.invariant.1 (scatter_more (λ k. true) (λ k. k) (λ k. get_or a.t.now (a.from + k) 0) loop.i (replicate 16 0)))
+
+pub returns : goal.returns
+returns c =
+    let all : c.loop-i.i ≡ c.args.n = omega arith in
+    rw all at c.loop-i.invariant.1
+
+pub overflow_add-r : goal.overflow_add-r
+overflow_add-r c =
+    omega arith
+
+pub bounds-t-from : goal.bounds-t-from
+bounds-t-from c =
+    omega arith
+
+pub bounds-r-i : goal.bounds-r-i
+bounds-r-i c =
+    omega arith
