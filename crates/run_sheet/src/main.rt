@@ -1,42 +1,49 @@
 // Reads a run sheet on standard input and prints the runs of its pass.
 #![tactic(auto)]
 
-use sheet::{SheetAnswer, run_sheet};
-use std::io;
-use std::io::Read;
+ghost use Rattle.std.specs.Prelude.{◌≡◌, take, IfSome, IfOk, OnOk};
+ghost use Rattle.std.specs.Io.KnownBytes.{Appends};
+ghost use Rattle.sheet.specs.Sheet.{run_sheet};
 
-fn print_sheet(rt: &(impl Print + Eprint), sheet: &[u8]) -> io::Result<()> {
+use anyhow::{Context, Result};
+use sheet::{SheetAnswer, run_sheet};
+use std::alloc::Global;
+use std::io;
+use std::io::{Read, Write};
+
+// The largest sheet has 8 bytes and 8,192 words.
+const LARGEST_SHEET: u64 = 32776;
+
+fn print_sheet<W: Write>(out: &mut W, sheet: &[u8]) -> Result<()>
+    ensures { OnOk result (Appends (W.contents out.old) (W.contents out.new) (run_sheet sheet.now)) }
+{
     let mut text = [0u8; 2048];
     let SheetAnswer::Written(count) = run_sheet(sheet, &mut text) else {
         return Ok(());
     };
-    if rt.write_all(&text[..count]).is_err() {
-        eprintln!(rt; "the output could not be written")?;
-    }
-    Ok(())
+    out.write_all(&text[..count])
+        .context("the output could not be written")
 }
 
-// Reads until the input ends or the buffer is full: what lies behind the largest sheet counts for nothing.
-fn read_and_print(
-    rt: &(impl Print + Eprint),
-    input: &mut impl Read,
-    buf: &mut [u8],
-) -> io::Result<()> {
-    let mut done = 0;
-    while done < buf.len() {
-        let Ok(more) = input.read(&mut buf[done..]) else {
-            return eprintln!(rt; "the sheet could not be read");
-        };
-        if more == 0 {
-            return print_sheet(rt, &buf[..done]);
-        }
-        done += more;
-    }
-    print_sheet(rt, buf)
+// Reads until the input ends or the largest sheet is read: what lies behind it counts for nothing.
+fn read_sheet<R: Read + Drop>(alloc: Global, input: R) -> Result<Vec<u8>>
+    ensures { IfOk result (λ sheet. IfSome (R.remaining input) (λ bytes. sheet.items ≡ take 32776 bytes)) }
+{
+    let mut sheet = Vec::new(alloc);
+    input
+        .take(LARGEST_SHEET)
+        .read_to_end(&mut sheet)
+        .context("the sheet could not be read")?;
+    Ok(sheet)
 }
 
-// The largest sheet has 8 bytes and 8,192 words.
-fn main(rt: HostRuntime) -> io::Result<()> {
-    let mut buf = [0u8; 32776];
-    read_and_print(&rt, &mut rt.stdin(), &mut buf)
+fn read_and_print<R: Read + Drop, W: Write>(alloc: Global, input: R, out: &mut W) -> Result<()>
+    ensures { OnOk result (IfSome (R.remaining input) (λ bytes. Appends (W.contents out.old) (W.contents out.new) (run_sheet (take 32776 bytes)))) }
+{
+    let sheet = read_sheet(alloc, input)?;
+    print_sheet(out, sheet.as_slice())
+}
+
+fn main(rt: HostRuntime) -> Result<()> {
+    read_and_print(rt.alloc(), rt.stdin(), &mut io::writer(&rt))
 }
