@@ -1,7 +1,5 @@
-use mathlib.Core.Path.{◌≡◌, ap, ◌∙◌}
-use native.Mathlib.Omega.{arith}
-use lib.ListN.{length}
-use lib.Seq.{take-length}
+use Rattle.std.proofs.Common.{◌≡◌, ap, ◌∙◌, arith, length}
+use Rattle.std.proofs.Math.Seq.{take-length}
 use Rattle.text.specs.TextLaws.{written_none, written_next, written-length}
 use Rattle.text.proofs.put_bytes_unchecked.Goals as goal
 
