@@ -1,8 +1,8 @@
 // Prints the packed cells of a built-in row: two blocks side by side, case S of document 01.
 use crate::output::{print_flag, print_number};
 use cells::LfCell;
-use libc::STDOUT_FILENO;
 use row::{RowAnswer, row_cells};
+use std::io;
 
 // Both blocks have 8 by 8 samples, and the frame has no other cells.
 pub(crate) const MI_SIZE: u8 = 3;
@@ -38,31 +38,29 @@ pub(crate) fn made_row(cells: &mut [u32]) -> RowAnswer {
     )
 }
 
-fn print_cell(name: &[u8], word: u32) {
+fn print_cell(rt: &impl Print, name: &str, word: u32) -> io::Result<()> {
     let cell = LfCell::unpack(word);
-    io::write_all(STDOUT_FILENO, name);
-    io::print_hex(STDOUT_FILENO, word as u64, 8);
-    print_number(b": width ", cell.width0);
-    print_number(b" ", cell.width1);
-    print_number(b", height ", cell.height0);
-    print_number(b" ", cell.height1);
-    print_number(b", transform ", cell.tx);
-    print_number(b", chroma transform ", cell.uvtx);
-    print_flag(b", skipped ", cell.skipped);
-    print_number(b", level ", cell.level);
-    io::write_all(STDOUT_FILENO, b"\n");
+    print!(rt; "{name}{word:08x}")?;
+    print_number(rt, ": width ", cell.width0)?;
+    print_number(rt, " ", cell.width1)?;
+    print_number(rt, ", height ", cell.height0)?;
+    print_number(rt, " ", cell.height1)?;
+    print_number(rt, ", transform ", cell.tx)?;
+    print_number(rt, ", chroma transform ", cell.uvtx)?;
+    print_flag(rt, ", skipped ", cell.skipped)?;
+    print_number(rt, ", level ", cell.level)?;
+    println!(rt)
 }
 
-pub(crate) fn print_row() {
+pub(crate) fn print_row(rt: &impl Print) -> io::Result<()> {
     let mut cells = [0u32; 2];
     let answer = made_row(&mut cells);
     let RowAnswer::Done = answer else {
-        return;
+        return Ok(());
     };
-    io::write_all(
-        STDOUT_FILENO,
-        b"cells of two 8x8 blocks; width and height are log2 in 8-sample blocks, for subsampling 0 and 1\n",
-    );
-    print_cell(b"cell 0, word ", cells[0]);
-    print_cell(b"cell 1, word ", cells[1]);
+    println!(rt;
+        "cells of two 8x8 blocks; width and height are log2 in 8-sample blocks, for subsampling 0 and 1"
+    )?;
+    print_cell(rt, "cell 0, word ", cells[0])?;
+    print_cell(rt, "cell 1, word ", cells[1])
 }

@@ -14,10 +14,10 @@ mod superblock;
 use case_s::print_row;
 use frame_header::{Delta, LoopFilterParams, SegmentationParams};
 use levels::loop_filter::level_table;
-use libc::STDOUT_FILENO;
 use output::print_number;
 use position::print_edges;
 use sheet_step::print_sheet;
+use std::io;
 use step::print_line;
 use strength::{StrengthAnswer, strength_for_level};
 use superblock::print_superblock;
@@ -52,54 +52,52 @@ fn segments() -> SegmentationParams {
     }
 }
 
-fn print_level(level: u8) {
-    print_number(b" ", level);
+fn print_level(rt: &impl Print, level: u8) -> io::Result<()> {
+    print_number(rt, " ", level)
 }
 
-fn print_levels(levels: [u8; 64], segment: usize)
+fn print_levels(rt: &impl Print, levels: [u8; 64], segment: usize) -> io::Result<()>
     requires { segment < 8 }
 {
     for k in 0..8 {
-        print_level(levels[segment * 8 + k]);
+        print_level(rt, levels[segment * 8 + k])?;
     }
+    Ok(())
 }
 
-fn print_segment(levels: [u8; 64], segment: usize)
+fn print_segment(rt: &impl Print, levels: [u8; 64], segment: usize) -> io::Result<()>
     requires { segment < 8 }
 {
-    print_number(b"segment ", segment as u8);
-    io::write_all(STDOUT_FILENO, b":");
-    print_levels(levels, segment);
-    io::write_all(STDOUT_FILENO, b"\n");
+    print_number(rt, "segment ", segment as u8)?;
+    print!(rt; ":")?;
+    print_levels(rt, levels, segment)?;
+    println!(rt)
 }
 
-fn print_strength(lvl: u8, sharpness: u8) {
+fn print_strength(rt: &impl Print, lvl: u8, sharpness: u8) -> io::Result<()> {
     let StrengthAnswer::Done(found) = strength_for_level(lvl, sharpness) else {
-        return;
+        return Ok(());
     };
-    print_number(b"level ", lvl);
-    print_number(b" sharpness ", sharpness);
-    print_number(b": limit ", found.limit);
-    print_number(b", blimit ", found.blimit);
-    print_number(b", thresh ", found.thresh);
-    io::write_all(STDOUT_FILENO, b"\n");
+    print_number(rt, "level ", lvl)?;
+    print_number(rt, " sharpness ", sharpness)?;
+    print_number(rt, ": limit ", found.limit)?;
+    print_number(rt, ", blimit ", found.blimit)?;
+    print_number(rt, ", thresh ", found.thresh)?;
+    println!(rt)
 }
 
-fn main() {
+fn main(rt: HostRuntime) -> io::Result<()> {
     let made = level_table(header(), segments());
     let levels = made.table.levels;
-    io::write_all(
-        STDOUT_FILENO,
-        b"levels of intra, last, golden, altref, each for mode types 0 and 1\n",
-    );
-    print_segment(levels, 0);
-    print_segment(levels, 1);
-    print_strength(levels[0], 0);
-    print_strength(levels[0], 5);
-    print_strength(levels[8], 0);
-    print_line();
-    print_row();
-    print_edges();
-    print_superblock();
-    print_sheet();
+    println!(rt; "levels of intra, last, golden, altref, each for mode types 0 and 1")?;
+    print_segment(&rt, levels, 0)?;
+    print_segment(&rt, levels, 1)?;
+    print_strength(&rt, levels[0], 0)?;
+    print_strength(&rt, levels[0], 5)?;
+    print_strength(&rt, levels[8], 0)?;
+    print_line(&rt)?;
+    print_row(&rt)?;
+    print_edges(&rt)?;
+    print_superblock(&rt)?;
+    print_sheet(&rt)
 }

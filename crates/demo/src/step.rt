@@ -1,7 +1,7 @@
 // Prints a built-in line, a step at the edge, before the filter and after it at each size.
 use crate::output::print_number;
-use libc::STDOUT_FILENO;
 use line::{LineAnswer, sample_filtering};
+use std::io;
 use strength::{FilterStrength, StrengthAnswer, strength_for_level};
 
 // p7 to p0, then q0 to q7.
@@ -11,40 +11,36 @@ fn step() -> [u16; 16] {
     [p, p, p, p, p, p, p, p, q, q, q, q, q, q, q, q]
 }
 
-pub(crate) fn print_sample(sample: u16) {
-    io::write_all(STDOUT_FILENO, b" ");
-    io::print_decimal(STDOUT_FILENO, sample as u64);
+pub(crate) fn print_sample(rt: &impl Print, sample: u16) -> io::Result<()> {
+    print!(rt; " {sample}")
 }
 
-fn print_samples(t: &[u16; 16]) {
-    io::write_all(STDOUT_FILENO, b":");
+fn print_samples(rt: &impl Print, t: &[u16; 16]) -> io::Result<()> {
+    print!(rt; ":")?;
     for k in 0..16 {
-        print_sample(t[k]);
+        print_sample(rt, t[k])?;
     }
-    io::write_all(STDOUT_FILENO, b"\n");
+    println!(rt)
 }
 
-fn print_size(size: u8, found: FilterStrength) {
+fn print_size(rt: &impl Print, size: u8, found: FilterStrength) -> io::Result<()> {
     let mut t = step();
     let answer = sample_filtering(&mut t, 8, size, found.limit, found.blimit, found.thresh);
     let LineAnswer::Done = answer else {
-        return;
+        return Ok(());
     };
-    print_number(b"size ", size);
-    print_samples(&t);
+    print_number(rt, "size ", size)?;
+    print_samples(rt, &t)
 }
 
-pub(crate) fn print_line() {
+pub(crate) fn print_line(rt: &impl Print) -> io::Result<()> {
     let StrengthAnswer::Done(found) = strength_for_level(32, 0) else {
-        return;
+        return Ok(());
     };
-    io::write_all(
-        STDOUT_FILENO,
-        b"line from p7 to q7, depth 8, level 32 sharpness 0\n",
-    );
-    io::write_all(STDOUT_FILENO, b"before");
-    print_samples(&step());
-    print_size(0, found);
-    print_size(1, found);
-    print_size(2, found);
+    println!(rt; "line from p7 to q7, depth 8, level 32 sharpness 0")?;
+    print!(rt; "before")?;
+    print_samples(rt, &step())?;
+    print_size(rt, 0, found)?;
+    print_size(rt, 1, found)?;
+    print_size(rt, 2, found)
 }

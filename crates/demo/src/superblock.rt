@@ -3,9 +3,9 @@ use crate::case_s::{MI_COLS, MI_ROWS, made_row};
 use crate::output::print_place;
 use crate::step::print_sample;
 use faults::PassAnswer;
-use libc::STDOUT_FILENO;
 use pass::superblock_loop_filter_cells;
 use row::RowAnswer;
+use std::io;
 use window::WindowShape;
 
 // A cell of the row without its level.
@@ -29,13 +29,14 @@ fn superblock() -> [u16; 128] {
     samples
 }
 
-fn print_rows(samples: &[u16; 128]) {
+fn print_rows(rt: &impl Print, samples: &[u16; 128]) -> io::Result<()> {
     for k in 0..128 {
-        print_sample(samples[k]);
+        print_sample(rt, samples[k])?;
         if k % 16 == 15 {
-            io::write_all(STDOUT_FILENO, b"\n");
+            println!(rt)?;
         }
     }
+    Ok(())
 }
 
 // Sharpness 0, depth 8, the vertical edges of plane 0.
@@ -51,40 +52,38 @@ fn filtered(samples: &mut [u16], cells: &[u32]) -> PassAnswer {
     )
 }
 
-fn print_filtered(cells: &[u32]) {
+fn print_filtered(rt: &impl Print, cells: &[u32]) -> io::Result<()> {
     let mut samples = superblock();
-    io::write_all(STDOUT_FILENO, b"before the pass over its vertical edges\n");
-    print_rows(&samples);
+    println!(rt; "before the pass over its vertical edges")?;
+    print_rows(rt, &samples)?;
     let PassAnswer::Done = filtered(&mut samples, cells) else {
-        return;
+        return Ok(());
     };
-    io::write_all(STDOUT_FILENO, b"after\n");
-    print_rows(&samples);
+    println!(rt; "after")?;
+    print_rows(rt, &samples)
 }
 
 // The place is 64 times the edge and the position along it: edge 2 lies between the blocks.
-fn print_refused(cells: &[u32]) {
+fn print_refused(rt: &impl Print, cells: &[u32]) -> io::Result<()> {
     let mut samples = superblock();
     let PassAnswer::Level(place) = filtered(&mut samples, cells) else {
-        return;
+        return Ok(());
     };
     print_place(
-        b"with its second cell without level: refused 14 place ",
+        rt,
+        "with its second cell without level: refused 14 place ",
         place,
-    );
-    io::write_all(STDOUT_FILENO, b"\n");
+    )?;
+    println!(rt)
 }
 
-pub(crate) fn print_superblock() {
+pub(crate) fn print_superblock(rt: &impl Print) -> io::Result<()> {
     let mut cells = [0u32; 2];
     let RowAnswer::Done = made_row(&mut cells) else {
-        return;
+        return Ok(());
     };
-    io::write_all(
-        STDOUT_FILENO,
-        b"the superblock of these blocks, 16 by 8 samples\n",
-    );
-    print_filtered(&cells);
+    println!(rt; "the superblock of these blocks, 16 by 8 samples")?;
+    print_filtered(rt, &cells)?;
     cells[1] = WITHOUT_LEVEL;
-    print_refused(&cells);
+    print_refused(rt, &cells)
 }

@@ -1,40 +1,49 @@
 // Reads a run sheet on standard input and prints the runs of its pass.
 #![tactic(auto)]
 
-use libc::{STDERR_FILENO, STDIN_FILENO, STDOUT_FILENO};
+ghost use Rattle.std.specs.Prelude.{◌≡◌, take, IfSome, IfOk, OnOk};
+ghost use Rattle.std.specs.Io.KnownBytes.{Appends};
+ghost use Rattle.sheet.specs.Sheet.{run_sheet};
+
+use anyhow::{Context, Result};
 use sheet::{SheetAnswer, run_sheet};
-
-fn print_sheet(sheet: &[u8]) {
-    let mut text = [0u8; 2048];
-    let SheetAnswer::Written(count) = run_sheet(sheet, &mut text) else {
-        return;
-    };
-    if !io::write_all(STDOUT_FILENO, &text[..count]) {
-        io::write_all(STDERR_FILENO, b"the output could not be written\n");
-    }
-}
-
-// Reads until the input ends or the buffer is full: what lies behind the largest sheet counts for nothing.
-fn read_and_print(buf: &mut [u8]) {
-    let mut done = 0;
-    while done < buf.len() {
-        let got = libc::read(STDIN_FILENO, &mut buf[done..]);
-        if got < 0 {
-            io::write_all(STDERR_FILENO, b"the sheet could not be read\n");
-            return;
-        }
-        let more = io::count(got, &buf[done..]);
-        if more == 0 {
-            print_sheet(&buf[..done]);
-            return;
-        }
-        done += more;
-    }
-    print_sheet(buf);
-}
+use std::alloc::Global;
+use std::io;
+use std::io::{Read, Write};
 
 // The largest sheet has 8 bytes and 8,192 words.
-fn main() {
-    let mut buf = [0u8; 32776];
-    read_and_print(&mut buf);
+const LARGEST_SHEET: u64 = 32776;
+
+fn print_sheet<W: Write>(out: &mut W, sheet: &[u8]) -> Result<()>
+    ensures { OnOk result (Appends (W.contents out.old) (W.contents out.new) (run_sheet sheet.now)) }
+{
+    let mut text = [0u8; 2048];
+    let SheetAnswer::Written(count) = run_sheet(sheet, &mut text) else {
+        return Ok(());
+    };
+    out.write_all(&text[..count])
+        .context("the output could not be written")
+}
+
+// Reads until the input ends or the largest sheet is read: what lies behind it counts for nothing.
+fn read_sheet<R: Read + Drop>(alloc: Global, input: R) -> Result<Vec<u8>>
+    ensures { IfOk result (λ sheet. IfSome (R.remaining input) (λ bytes. sheet.items ≡ take 32776 bytes)) }
+{
+    let mut sheet = Vec::new(alloc);
+    input
+        .take(LARGEST_SHEET)
+        .read_to_end(&mut sheet)
+        .context("the sheet could not be read")?;
+    Ok(sheet)
+}
+
+fn read_and_print<R: Read + Drop, W: Write>(alloc: Global, input: R, out: &mut W) -> Result<()>
+    ensures { OnOk result (IfSome (R.remaining input) (λ bytes. Appends (W.contents out.old) (W.contents out.new) (run_sheet (take 32776 bytes)))) }
+{
+    let sheet = read_sheet(alloc, input)?;
+    print_sheet(out, sheet.as_slice())
+}
+
+fn main(rt: HostRuntime) -> Result<()> {
+    read_and_print(rt.alloc(), rt.stdin(), &mut io::writer(&rt))
 }

@@ -50,6 +50,7 @@ pub fn header_of_unchecked(sheet: &[u8]) -> SheetHeader
     }
 }
 
+#[tactic(auto, unfolding(crate::specs::SheetHeader::bad_header))]
 pub fn bad_header(h: SheetHeader) -> bool
     ensures { result ≡ bad_header h }
 {

@@ -1,6 +1,6 @@
 -- Laws of a sheet's lines: how long they are.
 -- Assumes nothing.
-use Rattle.std.specs.Prelude.{◌≡◌, refl, ℕ, ◌*◌, ◌≤◌, ◌<◌, length}
+use Rattle.std.specs.Prelude.{refl, ℕ, ◌*◌, ◌≤◌, ◌<◌, length}
 use mathlib.Core.List.{List, [], ◌∷◌, Memᴰ}
 use Rattle.std.proofs.Common.{arith, length-append}
 use Rattle.decided.specs.RunsLaws.{Small}

@@ -5,6 +5,7 @@
 ghost use Rattle.std.specs.Prelude.{◌∷◌, [], ◌+◌, ◌≤◌, ◌<◌, length};
 ghost use Rattle.text.specs.Text.{decimal, Put};
 
+#[tactic(auto, unfolding(crate::specs::Text::written))]
 pub fn put_byte_unchecked(out: &mut [u8], at: usize, byte: u8) -> usize
     requires { at < 4294967296 }
     ensures { Put at (byte ∷ []) out.old out.new result }

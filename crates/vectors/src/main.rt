@@ -15,24 +15,26 @@ mod sheet_record;
 mod strength_record;
 
 use replay::{Kind, replay_file, replay_form};
+use std::io;
+use std::rt::Files;
 
 // The same rows and passes, through the forms of the library that take records.
-fn replay_record_forms() {
-    replay_form(b"rows.bin", b", cell records", Kind::RowRecords);
-    replay_form(b"passes.bin", b", window record", Kind::PassWindow);
-    replay_form(b"passes.bin", b", cell records", Kind::PassRecords);
+fn replay_record_forms(rt: &(impl Files + Print)) -> io::Result<()> {
+    replay_form(rt, "rows.bin", ", cell records", Kind::RowRecords)?;
+    replay_form(rt, "passes.bin", ", window record", Kind::PassWindow)?;
+    replay_form(rt, "passes.bin", ", cell records", Kind::PassRecords)
 }
 
-fn main() {
-    replay_file(b"levels.bin", Kind::Levels);
-    replay_file(b"frames.bin", Kind::Levels);
-    replay_file(b"strength.bin", Kind::Strength);
-    replay_file(b"lines.bin", Kind::Line);
-    replay_file(b"byte_lines.bin", Kind::ByteLine);
-    replay_file(b"rows.bin", Kind::Row);
-    replay_file(b"edges.bin", Kind::Edge);
-    replay_file(b"passes.bin", Kind::Pass);
-    replay_file(b"byte_passes.bin", Kind::BytePass);
-    replay_file(b"sheets.bin", Kind::Sheet);
-    replay_record_forms();
+fn main(rt: HostRuntime) -> io::Result<()> {
+    replay_file(&rt, "levels.bin", Kind::Levels)?;
+    replay_file(&rt, "frames.bin", Kind::Levels)?;
+    replay_file(&rt, "strength.bin", Kind::Strength)?;
+    replay_file(&rt, "lines.bin", Kind::Line)?;
+    replay_file(&rt, "byte_lines.bin", Kind::ByteLine)?;
+    replay_file(&rt, "rows.bin", Kind::Row)?;
+    replay_file(&rt, "edges.bin", Kind::Edge)?;
+    replay_file(&rt, "passes.bin", Kind::Pass)?;
+    replay_file(&rt, "byte_passes.bin", Kind::BytePass)?;
+    replay_file(&rt, "sheets.bin", Kind::Sheet)?;
+    replay_record_forms(&rt)
 }

@@ -1,12 +1,15 @@
 // Reads a file of records, counts those that the library answers as they say, and prints the count.
-ghost use Rattle.std.specs.Prelude.{◌≤◌};
+ghost use Rattle.std.specs.Prelude.{◌≤◌, IfOk, length};
 
 use crate::pass_record::Form;
 use crate::{
     byte_line_record, byte_pass_record, edge_record, levels_record, line_record, pass_record,
     row_record, sheet_record, strength_record,
 };
-use libc::STDOUT_FILENO;
+use std::fs::File;
+use std::io;
+use std::io::Read;
+use std::rt::Files;
 
 // A proved loop has to end, and nothing says that a file does. No file has so many records.
 const MOST_RECORDS: u64 = 100000;
@@ -79,34 +82,49 @@ fn is_equal(kind: Kind, record: &Record) -> bool {
     }
 }
 
-// A record that the file's end cuts short is different. The part is written with its start, 0, since
-// Rattle then proves it with no file.
-fn next_outcome(fd: i32, kind: Kind) -> Outcome {
-    let mut record = io::buffer();
-    let length = record_length(kind);
-    let got = io::read_full(fd, &mut record[0..length]);
-    if got == 0 {
-        return Outcome::End;
+// Reads until the part is full or the input ends.
+fn read_full(input: &mut impl Read, part: &mut [u8]) -> io::Result<usize>
+    ensures { IfOk result (λ count. count ≤ length part.new) }
+{
+    let mut done = 0;
+    while done < part.len() {
+        let more = input.read(&mut part[done..])?;
+        if more == 0 {
+            break;
+        }
+        done += more;
     }
-    if got < length {
-        return Outcome::Different;
-    }
-    if is_equal(kind, &record) {
-        return Outcome::Equal;
-    }
-    Outcome::Different
+    Ok(done)
 }
 
-fn tally_of(fd: i32, kind: Kind) -> Tally {
+// A record that the file's end cuts short is different. The part is written with its start, 0, since
+// Rattle then proves it with no file.
+fn next_outcome(input: &mut impl Read, kind: Kind) -> io::Result<Outcome> {
+    let mut record = [0u8; 4096];
+    let length = record_length(kind);
+    let got = read_full(input, &mut record[0..length])?;
+    if got == 0 {
+        return Ok(Outcome::End);
+    }
+    if got < length {
+        return Ok(Outcome::Different);
+    }
+    if is_equal(kind, &record) {
+        return Ok(Outcome::Equal);
+    }
+    Ok(Outcome::Different)
+}
+
+fn tally_of(input: &mut impl Read, kind: Kind) -> io::Result<Tally> {
     let mut equal: u64 = 0;
     let mut first: u64 = 0;
     for records in 0..MOST_RECORDS {
-        match next_outcome(fd, kind) {
-            Outcome::End => return Tally {
+        match next_outcome(input, kind)? {
+            Outcome::End => return Ok(Tally {
                 records,
                 equal,
                 first,
-            },
+            }),
             Outcome::Equal => equal += 1,
             Outcome::Different => {
                 if equal == records {
@@ -115,44 +133,40 @@ fn tally_of(fd: i32, kind: Kind) -> Tally {
             }
         }
     }
-    Tally {
+    Ok(Tally {
         records: MOST_RECORDS,
         equal,
         first,
-    }
+    })
 }
 
-fn print_tally(tally: Tally) {
-    io::write_all(STDOUT_FILENO, b": ");
-    io::print_decimal(STDOUT_FILENO, tally.records);
-    io::write_all(STDOUT_FILENO, b" records, ");
-    io::print_decimal(STDOUT_FILENO, tally.equal);
-    io::write_all(STDOUT_FILENO, b" equal");
+fn print_tally(rt: &impl Print, tally: Tally) -> io::Result<()> {
+    print!(rt; ": {} records, {} equal", tally.records, tally.equal)?;
     if tally.equal < tally.records {
-        io::write_all(STDOUT_FILENO, b", first different ");
-        io::print_decimal(STDOUT_FILENO, tally.first);
+        print!(rt; ", first different {}", tally.first)?;
     }
-    io::write_all(STDOUT_FILENO, b"\n");
+    println!(rt)
 }
 
-fn replay(name: &[u8], kind: Kind) {
-    let fd = os::open_read(name);
-    if fd < 0 {
-        io::write_all(STDOUT_FILENO, b": cannot be read\n");
-        return;
-    }
-    print_tally(tally_of(fd, kind));
-    libc::close(fd);
+fn replay(rt: &(impl Files + Print), name: &str, kind: Kind) -> io::Result<()> {
+    let Ok(mut file) = File::open(rt, name) else {
+        return println!(rt; ": cannot be read");
+    };
+    print_tally(rt, tally_of(&mut file, kind)?)
 }
 
-pub(crate) fn replay_file(name: &[u8], kind: Kind) {
-    io::write_all(STDOUT_FILENO, name);
-    replay(name, kind);
+pub(crate) fn replay_file(rt: &(impl Files + Print), name: &str, kind: Kind) -> io::Result<()> {
+    print!(rt; "{name}")?;
+    replay(rt, name, kind)
 }
 
 // The same through another form of the library, which is named behind the file.
-pub(crate) fn replay_form(name: &[u8], form: &[u8], kind: Kind) {
-    io::write_all(STDOUT_FILENO, name);
-    io::write_all(STDOUT_FILENO, form);
-    replay(name, kind);
+pub(crate) fn replay_form(
+    rt: &(impl Files + Print),
+    name: &str,
+    form: &str,
+    kind: Kind,
+) -> io::Result<()> {
+    print!(rt; "{name}{form}")?;
+    replay(rt, name, kind)
 }

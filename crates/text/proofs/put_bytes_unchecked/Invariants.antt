@@ -1,11 +1,5 @@
-use borrow.Author.Rules.{rules}
-use mathlib.Core.Path.{◌≡◌, ap, ◌∙◌}
-use Prim.Native.Nat.{◌+◌, ◌-◌, ◌≤◌}
-use native.Mathlib.Omega.{arith}
-use lib.ListN.{length, take}
-use lib.Seq.{take-length}
+use Rattle.std.proofs.Common.{◌≡◌, ◌+◌, ◌-◌, ◌≤◌, length, take}
 use Rattle.text.specs.Text.{written}
-use Rattle.text.specs.TextLaws.{written_none, written_next, written-length}
 use Rattle.text.proofs.put_bytes_unchecked.Given as goal
 
 abbrev pub invariant-loop-k : goal.invariant-loop-k
