@@ -2,8 +2,8 @@
 #![tactic(auto)]
 
 mod byte_passes;
-mod edge;
-mod levels;
+mod edge_facts;
+mod level_tables;
 mod lines;
 mod passes;
 mod records;
