@@ -1,4 +1,5 @@
 // One pass over one superblock of a plane of bytes.
+// The crate springspade exports its functions to C, and says what their arguments are.
 #![tactic(auto)]
 
 ghost use Rattle.std.specs.Prelude.{◌≡◌};
@@ -14,11 +15,8 @@ use c_border::Refusal;
 use c_pass::refusal_of;
 use window::WindowShape;
 
-// As springspade_pass over bytes. bit_depth: 8. cells: the words of springspade_row as bytes, four to a cell, the most
-// significant first. Refusals: those of springspade_pass; 2 bit_depth not 8; 7 fewer than four bytes for each cell of
-// the row; never 13.
-#[unsafe(no_mangle)]
-pub extern "C" fn springspade_pass_bytes(
+// As springspade_pass over bytes, the words of the cells too.
+pub fn springspade_pass_bytes(
     samples: &mut [u8],
     cells: &[u8],
     width: usize,

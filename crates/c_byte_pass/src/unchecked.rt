@@ -11,11 +11,8 @@ use decided::superblock_of;
 use pass_edges::pass_of;
 use window::WindowShape;
 
-// As springspade_pass_bytes, without its tests and without an answer, and with cells as springspade_row packs them. The
-// caller must hand over only what springspade_pass_bytes would accept with these words as bytes; else memory outside
-// samples and cells may be read or written.
-#[unsafe(no_mangle)]
-pub extern "C" fn springspade_pass_bytes_unchecked(
+// As springspade_pass_bytes, without its tests and without an answer, and with cells as springspade_row packs them.
+pub fn springspade_pass_bytes_unchecked(
     samples: &mut [u8],
     cells: &[u32],
     width: usize,

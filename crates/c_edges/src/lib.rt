@@ -1,4 +1,5 @@
 // The facts of one position.
+// The crate springspade exports its functions to C, and says what their arguments are.
 #![tactic(auto)]
 
 ghost use Rattle.std.specs.Prelude.{◌≡◌};
@@ -89,14 +90,8 @@ fn entry_of(answer: EdgeAnswer) -> Edge
     }
 }
 
-// The facts of position i on an edge of the superblock at mi_row, mi_col. mi_cols, mi_rows, mi_row, mi_col count 8 luma
-// samples. sub_x, sub_y, tx_size are those of the plane: sub_x, sub_y are 0 in plane 0. pass: 0 vertical, 1 horizontal.
-// Pass 0 has edge below 16 >> sub_x and i below 64 >> sub_y, pass 1 has edge below 16 >> sub_y and i below 64 >> sub_x.
-// The cell: mi_size 0 (4x4) to 12 (64x64), tx_size 0 (4x4) to 3 (32x32), skip 0 or 1, ref_frame 0 intra, above 0 inter.
-// Refusals: 3 to 5 as springspade_row; 8 mi_size, tx_size or skip too large; 9 pass above 1; 10 mi_col no multiple of
-// 8 below mi_cols; 16 edge or i too large.
-#[unsafe(no_mangle)]
-pub extern "C" fn springspade_edge(
+// The facts of position i on an edge of the superblock at mi_row, mi_col.
+pub fn springspade_edge(
     sub_x: u8,
     sub_y: u8,
     mi_cols: usize,

@@ -1,4 +1,5 @@
 // The level table over lists.
+// The crate springspade exports its functions to C, and says what their arguments are.
 #![tactic(auto)]
 
 ghost use Rattle.std.specs.Prelude.{◌≡◌, ◌≤◌, ◌<◌, length};
@@ -78,13 +79,8 @@ fn segmentation_params(
     }
 }
 
-// Writes the frame's level table to the first 64 of levels, at segment * 8 + reference * 2 + mode type; the reference
-// is 0 intra, 1 last, 2 golden, 3 altref. level: 0 to 63. The flags are those of the frame header. deltas: four by
-// reference, then two by mode type. Where deltas_present has false the default holds: 1, 0, -1, -1, 0, 0.
-// feature_enabled, feature_data: 32 each, at segment * 4 + feature.
-// Refusals: 6 level above 63; 7 fewer than 6 deltas or deltas_present, 32 features or 64 levels.
-#[unsafe(no_mangle)]
-pub extern "C" fn springspade_level_table(
+// Writes the frame's level table to the first 64 of levels, where it accepts its arguments.
+pub fn springspade_level_table(
     level: u8,
     delta_enabled: bool,
     delta_update: bool,

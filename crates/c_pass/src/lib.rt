@@ -1,4 +1,5 @@
 // One pass over one superblock of a plane.
+// The crate springspade exports its functions to C, and says what their arguments are.
 #![tactic(auto)]
 
 ghost use Rattle.std.specs.Prelude.{◌≡◌};
@@ -24,13 +25,7 @@ pub fn refusal_of(answer: PassAnswer) -> Refusal
 }
 
 // Filters the superblock at mi_row, mi_col of a plane in place: vertical edges (pass 0) or horizontal ones (pass 1).
-// samples: height rows of width samples, stride apart, the first being the plane's row y_origin; width and y_origin +
-// height at most 65536, stride at most 131072. cells: as packed by springspade_row. mi_col is counted as mi_row.
-// sub_x, sub_y: the frame's, also for plane 0. Refusals: 1 to 5 as springspade_row; 7 short cells; 9 plane above 2,
-// pass above 1; 10 mi_col no multiple of 8 below mi_cols; 11 bad word (place: cell); 12 wrong window or short samples;
-// 13 sample >= 1 << bit_depth (place: row * width + column); 14 cell without level (place: edge * 64 + position).
-#[unsafe(no_mangle)]
-pub extern "C" fn springspade_pass(
+pub fn springspade_pass(
     samples: &mut [u16],
     cells: &[u32],
     width: usize,

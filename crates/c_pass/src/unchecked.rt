@@ -11,10 +11,8 @@ use pass::superblock_loop_filter_unchecked;
 use pass_edges::pass_of;
 use window::WindowShape;
 
-// As springspade_pass, without its tests and without an answer. The caller must hand over only what springspade_pass
-// would accept; else memory outside samples and cells may be read or written.
-#[unsafe(no_mangle)]
-pub extern "C" fn springspade_pass_unchecked(
+// As springspade_pass, without its tests and without an answer.
+pub fn springspade_pass_unchecked(
     samples: &mut [u16],
     cells: &[u32],
     width: usize,

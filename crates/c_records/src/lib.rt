@@ -1,4 +1,5 @@
 // The pass over a window record.
+// The crate springspade exports its functions to C, and says what their arguments are.
 #![tactic(auto)]
 
 ghost use Rattle.base.specs.Outcome.{Answers};
@@ -14,8 +15,7 @@ use plane_window::numbers::PassNumbers;
 use plane_window::pass_plane;
 
 // As springspade_pass, with the numbers behind the window in a record.
-#[unsafe(no_mangle)]
-pub extern "C" fn springspade_pass_window(
+pub fn springspade_pass_window(
     samples: &mut [u16],
     cells: &[u32],
     width: usize,

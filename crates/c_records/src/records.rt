@@ -11,9 +11,7 @@ use plane_window::numbers::PassNumbers;
 use record_pass::pass_records;
 
 // As springspade_pass, over cell records in place of words, with the numbers behind the window in a record.
-// Refusal 11 is also for a record with a field too large (place: record). Needs somewhat over 256 KiB of stack.
-#[unsafe(no_mangle)]
-pub extern "C" fn springspade_pass_records(
+pub fn springspade_pass_records(
     samples: &mut [u16],
     records: &[CellRecord],
     width: usize,

@@ -10,9 +10,7 @@ use cell_records::CellRecord;
 use record_row::{RowNumbers, row_records};
 
 // As springspade_row, into cell records in place of words, with the numbers in a record.
-// Records behind the row's cells are left. Needs somewhat over 256 KiB of stack.
-#[unsafe(no_mangle)]
-pub extern "C" fn springspade_row_records(
+pub fn springspade_row_records(
     mi_sizes: &[u8],
     tx_sizes: &[u8],
     skips: &[u8],

@@ -1,4 +1,5 @@
 // The cells of a superblock row, and a cell read from its word.
+// The crate springspade exports its functions to C, and says what their arguments are.
 #![tactic(auto)]
 
 ghost use Rattle.std.specs.Prelude.{◌≡◌};
@@ -29,13 +30,7 @@ pub fn refusal_of(answer: RowAnswer) -> Refusal
 }
 
 // Packs the cells of the superblock row at mi_row into the front of cells; words behind them are left.
-// mi_row, mi_cols, mi_rows count 8 luma samples. The lists start at the row's first cell, row by row, mi_cols to a row,
-// min(8, mi_rows - mi_row) rows: mi_sizes 0 (4x4) to 12 (64x64), tx_sizes 0 (4x4) to 3 (32x32), skips 0 or 1,
-// ref_frames 0 intra, 1 last, 2 golden, 3 altref, segment_ids 0 to 7. levels: the 64 of springspade_level_table.
-// Refusals: 1 sharpness above 7; 2 bit_depth not 8, 10, 12; 3 sub_x, sub_y above 1; 4 mi_cols, mi_rows 0 or above 8192;
-// 5 mi_row no multiple of 8 below mi_rows; 6 level above 63 (place: entry); 7 short list; 8 bad cell (place: cell).
-#[unsafe(no_mangle)]
-pub extern "C" fn springspade_row(
+pub fn springspade_row(
     mi_sizes: &[u8],
     tx_sizes: &[u8],
     skips: &[u8],
@@ -74,9 +69,8 @@ pub extern "C" fn springspade_row(
     refusal_of(answer)
 }
 
-// The fields of a cell's word. Takes any word; its low 12 bits are not read.
-#[unsafe(no_mangle)]
-pub extern "C" fn springspade_cell(word: u32) -> LfCell
+// The fields of a cell's word.
+pub fn springspade_cell(word: u32) -> LfCell
     ensures { result ≡ cell_of word }
 {
     LfCell::unpack(word)

@@ -1,4 +1,5 @@
 // The strength and the mode type.
+// The crate springspade exports its functions to C, and says what their arguments are.
 #![tactic(auto)]
 
 ghost use Rattle.std.specs.Prelude.{◌≡◌};
@@ -37,10 +38,8 @@ fn refusal(number: u32) -> Strength
     }
 }
 
-// The strength of the line filter for a level, 0 to 63, and the frame's sharpness, 0 to 7.
-// Refusals: 1 sharpness above 7; 6 level above 63.
-#[unsafe(no_mangle)]
-pub extern "C" fn springspade_strength(level: u8, sharpness: u8) -> Strength
+// The strength of the line filter for a level and the frame's sharpness.
+pub fn springspade_strength(level: u8, sharpness: u8) -> Strength
     ensures { result ≡ entry_of (strength_for level sharpness) }
 {
     match strength::strength_for_level(level, sharpness) {
@@ -56,9 +55,8 @@ pub extern "C" fn springspade_strength(level: u8, sharpness: u8) -> Strength
     }
 }
 
-// The mode type of a mode: 1 for NEARESTMV (10), NEARMV (11) and NEWMV (13), 0 for any other number.
-#[unsafe(no_mangle)]
-pub extern "C" fn springspade_mode_type(y_mode: u8) -> usize
+// The mode type of a mode.
+pub fn springspade_mode_type(y_mode: u8) -> usize
     ensures { result ≡ mode_type y_mode }
 {
     strength::mode_to_mode_type(y_mode)

@@ -1,4 +1,4 @@
-//! What the Rattle crates export, read from their formatted sources.
+//! What the static library exports, and the functions of the libraries that it calls, read from formatted sources.
 
 use std::fs;
 use std::path::{Path, PathBuf};
@@ -8,6 +8,8 @@ use std::path::{Path, PathBuf};
 pub struct Border {
     pub records: Vec<Record>,
     pub functions: Vec<Function>,
+    /// The functions of the libraries that those call: they have the same names.
+    pub called: Vec<Function>,
 }
 
 #[derive(Debug, Clone)]
@@ -25,6 +27,8 @@ pub struct Function {
     pub result: Option<Type>,
     /// It asks something of its caller.
     pub requires: bool,
+    /// Arguments, result and clauses as they are written.
+    pub contract: String,
 }
 
 #[derive(Debug, Clone)]
@@ -50,21 +54,27 @@ pub enum Type {
 }
 
 impl Border {
-    /// Reads the crates in the order of crates.txt.
+    /// Reads the crates in the order of crates.txt. The exported functions have the order of those that they call.
     pub fn read(root: &Path) -> Border {
         let list = fs::read_to_string(root.join("crates.txt")).expect("crates.txt");
         let crates = list.lines().filter(|line| !line.starts_with('#'));
-        let (mut known, mut functions) = (Vec::new(), Vec::new());
-        for name in crates.filter_map(|line| line.split_once(':')).map(|(name, _)| name) {
+        let (mut known, mut functions, mut called) = (Vec::new(), Vec::new(), Vec::new());
+        for line in crates.filter_map(|line| line.split_once(':')).map(|(line, _)| line) {
+            // A static library has that word behind its name.
+            let name = line.split(' ').next().unwrap();
             for file in sources(&root.join("crates").join(name).join("src")) {
                 let text = fs::read_to_string(&file).unwrap();
                 let lines: Vec<&str> = text.lines().collect();
-                known.extend(starts(&lines, "#[repr(C)]").map(|at| record(&lines, at)));
-                functions.extend(starts(&lines, "#[no_mangle]").map(|at| function(&lines, at)));
+                known.extend(marked(&lines, "#[repr(C)]").map(|at| record(&lines, at)));
+                functions
+                    .extend(marked(&lines, "#[unsafe(no_mangle)]").map(|at| function(&lines, at)));
+                called.extend(starts(&lines, "pub fn springspade_").map(|at| function(&lines, at)));
             }
         }
+        let place = |name: &str| called.iter().position(|called: &Function| called.name == name);
+        functions.sort_by_key(|function| place(&function.name).expect(&function.name));
         let records = used(&functions, &known);
-        Border { records, functions }
+        Border { records, functions, called }
     }
 }
 
@@ -82,9 +92,17 @@ fn sources(folder: &Path) -> Vec<PathBuf> {
     files
 }
 
-/// The lines that are this one.
-fn starts<'a>(lines: &'a [&str], attribute: &'a str) -> impl Iterator<Item = usize> + 'a {
-    (0..lines.len()).filter(move |&at| lines[at] == attribute)
+/// The lines that start so.
+fn starts<'a>(lines: &'a [&str], start: &'a str) -> impl Iterator<Item = usize> + 'a {
+    (0..lines.len()).filter(move |&at| lines[at].starts_with(start))
+}
+
+/// The first lines of the items that have this attribute, behind all their attributes.
+fn marked<'a>(lines: &'a [&str], attribute: &'a str) -> impl Iterator<Item = usize> + 'a {
+    starts(lines, attribute).map(|at| {
+        let attributes = lines[at..].iter().take_while(|line| line.starts_with("#["));
+        at + attributes.count()
+    })
 }
 
 /// The records that functions name.
@@ -106,19 +124,20 @@ fn used(functions: &[Function], known: &[Record]) -> Vec<Record> {
     records
 }
 
-/// The record whose attribute stands at this line.
+/// The record that starts at this line.
 fn record(lines: &[&str], at: usize) -> Record {
-    let head = lines[at + 1].strip_prefix("pub struct ").expect("a public struct");
+    let head = lines[at].strip_prefix("pub struct ").expect("a public struct");
     let name = head.strip_suffix(" {").expect(head).to_string();
-    let fields = lines[at + 2..].iter().take_while(|&&line| line != "}").copied();
+    let fields = lines[at + 1..].iter().take_while(|&&line| line != "}").copied();
     Record { comment: above(lines, at), name, fields: variables(fields, "pub ") }
 }
 
-/// The function whose attribute stands at this line.
+/// The function that starts at this line.
 fn function(lines: &[&str], at: usize) -> Function {
-    let head = lines[at + 1].strip_prefix("pub extern \"C\" fn ").expect("an exported function");
-    let (name, rest) = head.split_once('(').expect(head);
-    let body = lines[at..].iter().take_while(|&&line| line != "{");
+    let head = lines[at].strip_prefix("pub ").expect("a public function");
+    let head = head.strip_prefix("extern \"C\" ").unwrap_or(head);
+    let (name, rest) = head.strip_prefix("fn ").and_then(|head| head.split_once('(')).expect(head);
+    let body = lines[at + 1..].iter().take_while(|&&line| line != "{");
     let requires = body.clone().any(|line| line.trim_start().starts_with("requires"));
     let (arguments, end) = match rest.split_once(')') {
         // All on one line.
@@ -127,19 +146,22 @@ fn function(lines: &[&str], at: usize) -> Function {
             (arguments.map(variable).collect(), end)
         }
         None => {
-            let inner = body.clone().skip(2).take_while(|line| !line.starts_with(')'));
+            let inner = body.clone().take_while(|line| !line.starts_with(')'));
             let end = body.clone().find_map(|line| line.strip_prefix(')')).expect(head);
             (variables(inner.copied(), ""), end)
         }
     };
     let result = end.trim().strip_prefix("-> ").map(Type::parse);
-    Function { comment: above(lines, at), name: name.to_string(), arguments, result, requires }
+    let contract = body.fold(rest.to_string(), |contract, line| contract + "\n" + line);
+    let (name, comment) = (name.to_string(), above(lines, at));
+    Function { comment, name, arguments, result, requires, contract }
 }
 
-/// The comment lines right above.
+/// The comment lines above the attributes of an item.
 fn above(lines: &[&str], at: usize) -> Vec<String> {
-    let lines = lines[..at].iter().rev().map_while(|line| line.strip_prefix("// "));
-    let mut comment: Vec<String> = lines.map(str::to_string).collect();
+    let lines = lines[..at].iter().rev().skip_while(|line| line.starts_with("#["));
+    let mut comment: Vec<String> =
+        lines.map_while(|line| line.strip_prefix("// ")).map(str::to_string).collect();
     comment.reverse();
     comment
 }

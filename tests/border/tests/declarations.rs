@@ -26,6 +26,16 @@ fn every_item_has_a_comment() {
     }
 }
 
+#[test]
+fn exports_have_the_contracts_of_what_they_call() {
+    let Border { functions, called, .. } = Border::read(&root());
+    assert_eq!(functions.len(), called.len());
+    for (function, called) in functions.iter().zip(&called) {
+        assert_eq!(function.name, called.name);
+        assert_eq!(function.contract, called.contract, "{}", function.name);
+    }
+}
+
 /// The arguments of a function; the numbers of a record stand in its place.
 fn arguments(border: &Border, function: &Function) -> Vec<Variable> {
     let numbers = |argument: &Variable| {

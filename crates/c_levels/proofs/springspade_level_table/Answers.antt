@@ -1,0 +1,54 @@
+use borrow.Author.Tests.{lt-ltb, le-ltb, ltb-false}
+use mathlib.Core.Bool.{false, ◌||◌}
+use mathlib.Core.Path.{◌≡◌, refl}
+use Prim.Native.Nat.{ℕ, ◌≤◌}
+use lib.Dec.{ltb}
+use lib.ListN.{length}
+use Rattle.base.specs.Tests.{neither}
+use Rattle.c_levels.specs.LevelEntry.{level_entry}
+use Rattle.c_levels.proofs.springspade_level_table.Goals as goal
+
+-- no list is too short
+pub record Long (deltas present on features levels : ℕ) : Type 0 where
+  pub deltas_long : 6 ≤ deltas
+  pub present_long : 6 ≤ present
+  pub on_long : 32 ≤ on
+  pub features_long : 32 ≤ features
+  pub levels_long : 64 ≤ levels
+
+long : (a b c d e : ℕ) → ltb a 6 || ltb b 6 || ltb c 32 || ltb d 32 || ltb e 64 ≡ false → Long a b c d e
+long a b c d e h =
+    let s4 = neither (ltb a 6 || ltb b 6 || ltb c 32 || ltb d 32) h in
+    let s3 = neither (ltb a 6 || ltb b 6 || ltb c 32) s4.0 in
+    let s2 = neither (ltb a 6 || ltb b 6) s3.0 in
+    let s1 = neither (ltb a 6) s2.0 in
+    record { deltas_long = ltb-false a 6 s1.0; present_long = ltb-false b 6 s1.1; on_long = ltb-false c 32 s2.1; features_long = ltb-false d 32 s3.1; levels_long = ltb-false e 64 s4.1 }
+
+pub returns-then-level-gt63 : goal.returns-then-level-gt63
+unfolding level_entry
+returns-then-level-gt63 c = rw (lt-ltb _ _ c.if-level-gt63.true) (refl, refl)
+
+pub returns-then-deltas-deltas_present : goal.returns-then-deltas-deltas_present
+unfolding level_entry
+returns-then-deltas-deltas_present c = rw (le-ltb _ _ c.if-level-gt63.false, c.if-deltas-deltas_present.true) (refl, refl)
+
+pub loop_filter_params-lf-requires : goal.loop_filter_params-lf-requires
+loop_filter_params-lf-requires c =
+    let l = long (length c.args.deltas.now) (length c.args.deltas_present.now) (length c.args.feature_enabled.now) (length c.args.feature_data.now) (length c.args.levels.now) c.if-deltas-deltas_present.false in (l.deltas_long, l.present_long)
+
+pub segmentation_params-seg-requires : goal.segmentation_params-seg-requires
+segmentation_params-seg-requires c =
+    let l = long (length c.args.deltas.now) (length c.args.deltas_present.now) (length c.args.feature_enabled.now) (length c.args.feature_data.now) (length c.args.levels.now) c.if-deltas-deltas_present.false in (l.on_long, l.features_long)
+
+pub store_levels-requires : goal.store_levels-requires
+store_levels-requires c =
+    let l = long (length c.args.deltas.now) (length c.args.deltas_present.now) (length c.args.feature_enabled.now) (length c.args.feature_data.now) (length c.args.levels.now) c.if-deltas-deltas_present.false in l.levels_long
+
+pub returns : goal.returns
+unfolding level_entry
+returns c =
+    rw (le-ltb _ _ c.if-level-gt63.false, c.if-deltas-deltas_present.false) (
+      refl,
+      rw (c.level_table-made.ensures.1, c.loop_filter_params-lf.ensures, c.segmentation_params-seg.ensures)
+          at c.store_levels.ensures,
+    )

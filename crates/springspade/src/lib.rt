@@ -1,0 +1,12 @@
+// The functions that C calls, each that of its name in the crates c_*, with its contract.
+#![tactic(auto)]
+
+mod byte_passes;
+mod edge_facts;
+mod level_tables;
+mod lines;
+mod passes;
+mod records;
+mod rows;
+mod sheets;
+mod strengths;
