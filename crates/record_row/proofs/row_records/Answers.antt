@@ -2,10 +2,10 @@ use Rattle.std.proofs.Common.{◌≡◌, ℕ, ◌≤◌, min, List, length, take
 use Rattle.std.proofs.lemmas.List.{length-replicate}
 use Rattle.base.specs.Outcome.{Answers}
 use Rattle.cell_records.specs.declared.CellRecord.{CellRecord}
-use Rattle.row.specs.Row.{ModeInfo, mode_info, returned_of}
+use Rattle.row.specs.Row.{ModeInfo, returned_of}
 use Rattle.row.specs.declared.RowAnswer.{RowAnswer}
 use Rattle.record_row.specs.declared.RowNumbers.{RowNumbers}
-use Rattle.record_row.specs.RecordRow.{stored, row_with, zeros, row_records, made_of}
+use Rattle.record_row.specs.RecordRow.{stored, row_with, row_records, made_of}
 use Rattle.record_row.specs.RecordRowLaws.{take-replicate, fits, count_small, row_answered}
 use Rattle.record_row.proofs.row_records.Goals as goal
 

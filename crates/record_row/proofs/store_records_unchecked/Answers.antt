@@ -1,4 +1,4 @@
-use Rattle.std.proofs.Common.{◌+◌, add-one, arith, refl, sym}
+use Rattle.std.proofs.Common.{add-one, arith, refl, sym}
 use Rattle.record_row.specs.RecordRow.{stored}
 use Rattle.record_row.specs.RecordRowLaws.{stored_none}
 use Rattle.record_row.proofs.store_records_unchecked.Goals as goal
