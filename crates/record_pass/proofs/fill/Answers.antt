@@ -1,4 +1,4 @@
-use Rattle.std.proofs.Common.{◌≡◌, ◌+◌, arith, zero-add}
+use Rattle.std.proofs.Common.{arith, zero-add}
 use Rattle.std.proofs.lemmas.List.{get_or_default}
 use Rattle.base.specs.Filled.{filled_none, filled_more}
 use Rattle.cell_records.specs.CellRecord.{none}
