@@ -1,13 +1,12 @@
 -- Laws of cell records: one whose fields fit comes back from its word, one with a field that is too large gives a word that 11 refuses, and a
 -- word comes back from its record.
 -- Assumes nothing.
-use Rattle.std.specs.Prelude.{◌≡◌, refl, Bool, true, false, cond, ℕ, ◌+◌, ◌%◌, ◌^◌, ◌<◌, ◌≤◌, eqb, ltb}
-use Rattle.std.proofs.Common.{sym, ap, ◌∙◌, arith, ltb-false, le-ltb}
+use Rattle.std.specs.Prelude.{◌≡◌, refl, Bool, true, false, ℕ, ◌+◌, ◌%◌, ◌^◌, ◌<◌, eqb, ltb}
+use Rattle.std.proofs.Common.{ap, ◌∙◌, arith, ltb-false, le-ltb}
 use Rattle.base.specs.Tests.{neither}
 use Rattle.cells.specs.Cell.{bit, packed, cell_of, Fields}
 use Rattle.bad_words.specs.BadWord.{bad_word}
 use Rattle.cells.specs.CellLaws.{fields_back, cell_fields, word_back}
-use Rattle.cells.specs.declared.LfCell.{LfCell}
 use Rattle.cell_records.specs.CellRecord.{too_large, cell_in, word_of, record_of}
 use Rattle.cell_records.specs.declared.CellRecord.{CellRecord}
 

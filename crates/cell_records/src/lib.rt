@@ -47,6 +47,7 @@ fn too_large(c: CellRecord) -> bool
 }
 
 // Takes any record: one with a field that is too large gives a word that document 01's test 11 refuses.
+#[tactic(auto, unfolding(crate::specs::CellRecord::word_of))]
 pub fn word_of(c: CellRecord) -> u32
     ensures { result ≡ word_of c }
 {

@@ -44,15 +44,14 @@ pub fn window_of<'a>(
 pub fn pass_window<'a, 'b>(w: PlaneWindow<'a>, cells: &'b [u32], p: PassNumbers) -> PassAnswer
     ensures { Answers (pass_over (shape w.entry.width w.entry.height w.entry.stride w.entry.y_origin) p cells.now w.entry.samples.now) (returned_of result) w.entry.samples.now w.exit.0.now }
 {
-    pass_numbers(
-        &mut *w.samples,
-        cells,
-        w.width,
-        w.height,
-        w.stride,
-        w.y_origin,
-        p,
-    )
+    let PlaneWindow {
+        samples,
+        width,
+        height,
+        stride,
+        y_origin,
+    } = w;
+    pass_numbers(samples, cells, width, height, stride, y_origin, p)
 }
 
 // The same with plain parameters, through the record.

@@ -1,5 +1,5 @@
 -- Laws of the words that a loop stores for a list of records: where the words end first, the rest of the records is left out, and no pass
--- would have read it (`pass-stored`).
+-- would have read it (`pass_stored`).
 -- Assumes nothing.
 use Rattle.std.specs.Prelude.{◌≡◌, refl, Bool, true, false, List, [], ◌∷◌, ℕ, zero, suc, ◌+◌, ◌-◌, ◌≤◌, ltb, length, take}
 use Rattle.std.proofs.Common.{sym, ap, subst, ◌∙◌, add-zero, add-suc, le_of_lt, add-sub_of_le, arith, ltb-true, ltb-false, length-append, take_all}
