@@ -9,21 +9,17 @@ use Rattle.sheet.specs.SheetAnswers.{answer_of, text_of}
 use Rattle.sheet.specs.SheetFits.{sheet_fits}
 use Rattle.sheet.specs.declared.SheetAnswer.TheVariants.{Written}
 use Rattle.text.specs.TextLaws.{written-front}
-use Rattle.sheet.proofs.run_sheet.Statement.{statement}
-use Rattle.sheet.proofs.run_sheet.Tie as tie
+use Rattle.sheet.proofs.run_sheet.Goals as goal
 
-returns : tie.Need-returns
+pub returns-then-out-gt2047 : goal.returns-then-out-gt2047
 unfolding answer_of text_of
-returns c =
-    let a = c.before.before.before.before.before.before.before.args in
-    let room = c.before.before.before.before.if1.true in
-    let put = c.before.before.print-sheet.ensures in
+returns-then-out-gt2047 c =
+    let a = c.args in
+    let room = c.if-out-gt2047.true in
+    let put = c.print_sheet.ensures in
     rw (lt-ltb 2047 (length a.out.now) room)
     (ap Written (put.1 ∙ zero-add (length (run_sheet a.sheet.now))), put.0 ∙ written-front (run_sheet a.sheet.now) a.out.now (omega (arith, room, sheet_fits a.sheet.now)))
 
-returns-2 : tie.Need-returns-2
+pub returns : goal.returns
 unfolding answer_of text_of
-returns-2 c = rw (le-ltb 2047 (length c.before.before.before.args.out.now) c.if1.false) (refl, refl)
-
-pub run-sheet-spec : {M : Type 1} → statement M
-run-sheet-spec = tie.close (tie.spec (search rules) (search rules) returns returns-2)
+returns c = rw (le-ltb 2047 (length c.args.out.now) c.if-out-gt2047.false) (refl, refl)

@@ -1,0 +1,16 @@
+use borrow.Author.Rules.{rules}
+use mathlib.Core.Path.{◌≡◌}
+use mathlib.Core.Bool.{Bool}
+use mathlib.Core.List.{List}
+use Prim.Native.Nat.{ℕ, ◌-◌, ◌≤◌}
+use native.Mathlib.Omega.{arith}
+use lib.Dec.{leb}
+use lib.ListN.{get_or}
+use Rattle.base.specs.First.{found, found-start, found_more}
+use Rattle.byte_chunks.proofs.any_large.Given as goal
+
+abbrev pub invariant-loop-l : goal.invariant-loop-l
+invariant-loop-l l = (l.l ≤ 16) × (l.on ≡ found (λ k. leb 128 (get_or l.keys k 0)) l.l)
+
+abbrev pub decreases-loop-l : goal.decreases-loop-l
+decreases-loop-l l = 16 - l.l

@@ -1,0 +1,14 @@
+use borrow.Author.Rules.{rules}
+use mathlib.Core.Path.{◌≡◌, ◌∙◌}
+use Prim.Native.Nat.{◌-◌, ◌≤◌}
+use native.Mathlib.Omega.{arith}
+use Rattle.decided.specs.CellWalk.{pass_cells, pass_none, pass_next}
+use Rattle.pass_edges.specs.PassEdges.{edge_count}
+use Rattle.sheet.specs.PrintLaws.{Fed, fed_none, fed_then, fed_length, pass_near, fed_all}
+use Rattle.sheet.proofs.runs.print_runs.Given as goal
+
+abbrev pub invariant-loop-edge : goal.invariant-loop-edge
+invariant-loop-edge l = (l.edge ≤ l.edge-end) × Fed (pass_cells l.s l.pass l.outer l.inner l.edge) l.initial.p l.initial.out l.out l.p
+
+abbrev pub decreases-loop-edge : goal.decreases-loop-edge
+decreases-loop-edge l = l.edge-end - l.edge
