@@ -8,8 +8,6 @@ use native.Mathlib.Omega.{arith}
 use Rattle.base.specs.Outcome.{Outcome, accepted, refused}
 use Rattle.decided.specs.declared.EdgeRun.{EdgeRun}
 use Rattle.faults.specs.contracts.PassAnswer.{the_type}
-use types.Run.{OneOf, miss}
-use denote.Enum.Declared.{tag_of}
 use Rattle.faults.specs.Faults.{returned_of}
 use Rattle.faults.specs.declared.PassAnswer.{PassAnswer}
 use Rattle.faults.specs.declared.PassAnswer.TheVariants.{Done}
@@ -78,16 +76,13 @@ returns-in-Done c =
     sheet_text (bytes c.before.before.before.before.before.before.before.before.before.before.before.before.before.before) h.result h.ensures o (tested c.before.before.before.before.before.before ∙ ap (λ r. afterwards r o) c.in-Done.is) _ c.print_words.ensures
 
 -- an answer that is not Done is a refusal
-abbrev refusals : List ℕ
-refusals = 1 ∷ 2 ∷ 3 ∷ 4 ∷ 5 ∷ 6 ∷ 7 ∷ 8 ∷ 9 ∷ 10 ∷ 11 ∷ 12 ∷ []
-
-not_done : (answer : PassAnswer) → OneOf refusals (tag_of the_type answer) → (after : Outcome (List EdgeRun)) → afterwards answer after ≡ refused (returned_of answer).number (returned_of answer).place
+not_done : (answer : PassAnswer) → (answer ≡ Done → ⊥) → (after : Outcome (List EdgeRun)) → afterwards answer after ≡ refused (returned_of answer).number (returned_of answer).place
 not_done answer k after =
-    ⊎_elim (λ (d : answer ≡ Done). absurd (miss refusals 0 tt (subst (λ (a : PassAnswer). OneOf refusals (tag_of the_type a)) d k))) (λ e. e) (done_or_refused answer after)
+    ⊎_elim (λ (d : answer ≡ Done). absurd (k d)) (λ e. e) (done_or_refused answer after)
 
 refusal : (c : at-After-place_of) → sheet_runs (bytes c.before.before.before.before.before.before.before.before.before.before.before.before) ≡ refused c.number_of.result c.place_of.result
 refusal c =
-    tested c.before.before.before.before ∙ not_done c.number_faults-faults.result c.in_default.in_default-own.keys2 _
+    tested c.before.before.before.before ∙ not_done c.number_faults-faults.result c.in_default.not-Done _
     ∙ (λ i. refused (sym c.number_of.ensures i) (sym c.place_of.ensures i))
 
 pub print_refusal_unchecked-requires-2 : goal.print_refusal_unchecked-requires-2

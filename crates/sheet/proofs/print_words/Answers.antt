@@ -33,17 +33,20 @@ words_at_unchecked-requires c =
     (omega (arith, lent, c.requires.4), few c.before.before)
 
 -- the list keeps its length
-same : (c : at-After-words_at_unchecked) → length c.words_at_unchecked.new.1.1.1.0 ≡ 8192
+same : (c : at-After-words_at_unchecked) → length c.words_at_unchecked.new.words ≡ 8192
 same c = ap length c.words_at_unchecked.ensures ∙ length-filled _ 0 c.cell_count_unchecked-count.result _
 
+room : (c : at-After-words_at_unchecked) → c.cell_count_unchecked-count.result ≤ length c.words_at_unchecked.new.words
+room c = omega (arith, same c, few c.before.before)
+
 pub slice_bounds-words-end : goal.slice_bounds-words-end
-slice_bounds-words-end c = omega (arith, same c.before.before.before, few c.before.before.before.before.before)
+slice_bounds-words-end c = room c.before.before.before
 
 pub slice_bounds-print_cells-end : goal.slice_bounds-print_cells-end
-slice_bounds-print_cells-end c = sym (length-take-le _ _ (slice_bounds-words-end c))
+slice_bounds-print_cells-end c = sym (length-take-le _ _ (room c.before.before.before.before))
 
 -- its front is the cells
-cells : (c : at-After-words_at_unchecked) → take c.cell_count_unchecked-count.result c.words_at_unchecked.new.1.1.1.0 ≡ cells_of c.args.sheet.now
+cells : (c : at-After-words_at_unchecked) → take c.cell_count_unchecked-count.result c.words_at_unchecked.new.words ≡ cells_of c.args.sheet.now
 unfolding words_at
 cells c =
     let start = c in

@@ -1,0 +1,69 @@
+use borrow.Author.Rules.{rules}
+use mathlib.Core.Logic.{⊎_elim}
+use mathlib.Core.Path.{◌≡◌, sym, ap, ◌∙◌}
+use Prim.Native.Nat.{ℕ, ◌+◌, ◌-◌}
+use native.Mathlib.Omega.{arith}
+use lib.ListN.{length, get_or}
+use Rattle.pass.specs.Chunks.{keyed_run}
+use Rattle.window.specs.Stencil.{Stencil, in_turn}
+use Rattle.window.specs.StencilLaws.{in_turn_none, in_turn_split, in_turn-length}
+use Rattle.byte_pass.proofs.chunk.filter_at.Goals as goal
+use Rattle.byte_pass.proofs.chunk.filter_at.Tie as tie
+use Rattle.byte_pass.proofs.chunk.filter_at.Lts as lts
+use Rattle.byte_pass.proofs.chunk.filter_at.Reads as reads
+
+abbrev at-Start : Type 0
+at-Start = lts.Start tie.the-claims reads.Pre reads.Post
+
+abbrev at-Joined1 : Type 0
+at-Joined1 = lts.Joined1 tie.the-claims reads.Pre reads.Post
+
+-- the positions of the chunk
+abbrev family : at-Start → (k : ℕ) → Stencil
+family c = let a = c.args in keyed_run a.g a.pass a.x.0 a.y.0 a.sharpness 8 (λ j. get_or a.keys.now j 0)
+
+pub filter_inside-requires : goal.filter_inside-requires
+filter_inside-requires c =
+    let count = c in
+    let p = count.requires in
+    (p.0, p.1, p.2, count.inside_count_unchecked-n.ensures.1 c.if-n-gt0.true, count.inside_count_unchecked-n.ensures.0, p.3, p.5)
+
+-- those inside the window are done first
+inside : (c : at-Joined1) → let start = c in c.if-n-gt0.samples ≡ in_turn (family start.before.before.before) c.inside_count_unchecked-n.result start.args.samples.now
+inside c =
+    ⊎_elim
+    (λ w. w.5 ∙ w.2.ensures)
+    (λ w.
+    let none : c.inside_count_unchecked-n.result ≡ 0 = omega (arith, w.0.left) in
+    w.1 ∙ in_turn_none _ _ ∙ ap (λ (n : ℕ). in_turn (family c.before.before.before) n c.args.samples.now) (sym none))
+    c.if-n-gt0.branch
+
+pub filter_border-requires : goal.filter_border-requires
+filter_border-requires c =
+    let count = c in
+    let start = count in
+    let p = start.requires in
+    let long = ap length (inside c.before) ∙ in_turn-length (family start.before.before.before.before) _ _ in
+    (rw long p.0, p.1, p.2, p.3, p.4, p.5, omega (arith, count.inside_count_unchecked-n.ensures.0))
+
+pub returns : goal.returns
+returns c =
+    let joined = c in
+    let n = joined.inside_count_unchecked-n.result in
+    let start = joined in
+    let all : n + (16 - n) ≡ 16 = omega (arith, joined.inside_count_unchecked-n.ensures.0) in
+    c.filter_border.ensures
+    ∙ ap (in_turn (λ k. family start.before.before.before.before.before.before.before.before (n + k)) (16 - n)) (inside joined.before.before.before.before.before)
+    ∙ sym (in_turn_split (family start.before.before.before.before.before.before.before.before) n (16 - n) start.args.samples.now)
+    ∙ ap (λ (m : ℕ). in_turn (family start.before.before.before.before.before.before.before.before) m start.args.samples.now) all
+
+pub shape_of-samples : goal.shape_of-samples
+shape_of-samples c = ap length (returns c) ∙ in_turn-length (family c.before.before.before.before.before.before.before.before) 16 _
+
+pub inside_count_unchecked-n-requires : goal.inside_count_unchecked-n-requires
+inside_count_unchecked-n-requires c =
+    search rules
+
+pub overflow_sub-n : goal.overflow_sub-n
+overflow_sub-n c =
+    c.inside_count_unchecked-n.ensures.0
