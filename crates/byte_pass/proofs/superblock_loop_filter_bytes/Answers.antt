@@ -20,7 +20,7 @@ abbrev at-After-number_faults : Type 0
 at-After-number_faults = lts.After-number_faults tie.the-claims reads.Pre reads.Post
 
 abbrev at-After-enum_told : Type 0
-at-After-enum_told = lts.After-enum_told tie.the-claims reads.Pre reads.Post
+at-After-enum_told = lts.Past-After-enum_told tie.the-claims reads.Pre reads.Post
 
 -- what the tests of the numbers answer, of as many cells as there are words
 tested : (c : at-After-number_faults) → let a = c.args in
@@ -54,4 +54,4 @@ returns-in-Done c =
 
 pub returns : goal.returns
 unfolding superblock_loop_filter_cells
-returns c = refused_answer c.number_faults-faults.result c.in_default.in_default-own.keys2 _ _ _ (tested c.before.before _)
+returns c = refused_answer c.number_faults-faults.result c.in_default.not-Done _ _ _ (tested c.before.before _)

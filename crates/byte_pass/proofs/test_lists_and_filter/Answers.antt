@@ -48,4 +48,4 @@ returns-in-Done c =
     answers_on _ _ _ _ _ (passed_on f.list_faults-faults.result _ _ told.in-Done.is (tested f.before.before.before.before.before.before _)) c.test_levels_and_filter.ensures
 
 pub returns : goal.returns
-returns c = refused_answer c.list_faults-faults.result c.in_default.in_default-own.keys2 _ _ _ (tested c.before.before _)
+returns c = refused_answer c.list_faults-faults.result c.in_default.not-Done _ _ _ (tested c.before.before _)

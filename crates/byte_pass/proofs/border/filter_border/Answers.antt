@@ -11,10 +11,7 @@ use Rattle.window.specs.Stencil.{Stencil, in_turn}
 use Rattle.window.specs.StencilLaws.{in_turn_none}
 use Rattle.window.specs.declared.WindowShape.{WindowShape}
 use Rattle.byte_pass.proofs.border.filter_border.Goals as goal
-
--- the positions from the first on
-abbrev family : WindowShape → Pass → (x y sharpness : ℕ) (keys : List ℕ) (first k : ℕ) → Stencil
-family g pass x y sharpness keys first k = keyed_run g pass x y sharpness 8 (λ j. get_or keys j 0) (first + k)
+use Rattle.byte_pass.proofs.border.filter_border.Invariants.{family}
 
 pub loop-j-init : goal.loop-j-init
 loop-j-init c = (omega arith, refl, in_turn_none _ _)

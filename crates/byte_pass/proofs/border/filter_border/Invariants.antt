@@ -12,6 +12,10 @@ use Rattle.window.specs.StencilLaws.{in_turn_none}
 use Rattle.window.specs.declared.WindowShape.{WindowShape}
 use Rattle.byte_pass.proofs.border.filter_border.Given as goal
 
+-- the positions from the first on
+abbrev pub family : WindowShape → Pass → (x y sharpness : ℕ) (keys : List ℕ) (first k : ℕ) → Stencil
+family g pass x y sharpness keys first k = keyed_run g pass x y sharpness 8 (λ j. get_or keys j 0) (first + k)
+
 abbrev pub invariant-loop-j : goal.invariant-loop-j
 invariant-loop-j l =
     (l.j ≤ l.count) × (length l.samples ≡ length l.initial.samples) × (l.samples ≡ in_turn (family l.g l.pass l.x l.y l.sharpness l.keys l.first) l.j l.initial.samples)

@@ -1,5 +1,4 @@
 use borrow.Author.Rules.{rules}
-use mathlib.Core.Logic.{⊎_elim}
 use mathlib.Core.Path.{◌≡◌, sym, ap, ◌∙◌}
 use Prim.Native.Nat.{ℕ, ◌+◌, ◌-◌}
 use native.Mathlib.Omega.{arith}
@@ -8,6 +7,7 @@ use Rattle.pass.specs.Chunks.{keyed_run}
 use Rattle.window.specs.Stencil.{Stencil, in_turn}
 use Rattle.window.specs.StencilLaws.{in_turn_none, in_turn_split, in_turn-length}
 use Rattle.byte_pass.proofs.chunk.filter_at.Goals as goal
+use Rattle.byte_pass.proofs.chunk.filter_at.Goals.{then-n-gt0, else-n-gt0}
 use Rattle.byte_pass.proofs.chunk.filter_at.Tie as tie
 use Rattle.byte_pass.proofs.chunk.filter_at.Lts as lts
 use Rattle.byte_pass.proofs.chunk.filter_at.Reads as reads
@@ -31,12 +31,12 @@ filter_inside-requires c =
 -- those inside the window are done first
 inside : (c : at-Joined1) → let start = c in c.if-n-gt0.samples ≡ in_turn (family start.before.before.before) c.inside_count_unchecked-n.result start.args.samples.now
 inside c =
-    ⊎_elim
-    (λ w. w.5 ∙ w.2.ensures)
-    (λ w.
-    let none : c.inside_count_unchecked-n.result ≡ 0 = omega (arith, w.0.left) in
-    w.1 ∙ in_turn_none _ _ ∙ ap (λ (n : ℕ). in_turn (family c.before.before.before) n c.args.samples.now) (sym none))
-    c.if-n-gt0.branch
+    elim c.if-n-gt0.branch [
+      | then-n-gt0 w ↦ w.samples-is ∙ w.filter_inside.ensures
+      | else-n-gt0 w ↦
+          let none : c.inside_count_unchecked-n.result ≡ 0 = omega (arith, w.if-n-gt0.false) in
+          w.samples-is ∙ in_turn_none _ _ ∙ ap (λ (n : ℕ). in_turn (family c.before.before.before) n c.args.samples.now) (sym none)
+    ]
 
 pub filter_border-requires : goal.filter_border-requires
 filter_border-requires c =
@@ -59,10 +59,6 @@ returns c =
 
 pub shape_of-samples : goal.shape_of-samples
 shape_of-samples c = ap length (returns c) ∙ in_turn-length (family c.before.before.before.before.before.before.before.before) 16 _
-
-pub inside_count_unchecked-n-requires : goal.inside_count_unchecked-n-requires
-inside_count_unchecked-n-requires c =
-    search rules
 
 pub overflow_sub-n : goal.overflow_sub-n
 overflow_sub-n c =

@@ -8,9 +8,7 @@ use lib.Dec.{eqb}
 use lib.ListN.{get_or}
 use Rattle.base.specs.First.{found, found-start, found_more}
 use Rattle.byte_pass.proofs.chunk_keys.any_filters.Goals as goal
-
-abbrev filters : List ℕ → (at c : ℕ) → Bool
-filters keys at c = not (eqb (get_or keys (at + c) 0 % 64) 0)
+use Rattle.byte_pass.proofs.chunk_keys.any_filters.Invariants.{filters}
 
 pub loop-c-init : goal.loop-c-init
 loop-c-init c = (omega arith, found-start (filters c.args.keys.now c.args.at))

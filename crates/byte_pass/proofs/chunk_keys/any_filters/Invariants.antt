@@ -9,6 +9,9 @@ use lib.ListN.{get_or}
 use Rattle.base.specs.First.{found, found-start, found_more}
 use Rattle.byte_pass.proofs.chunk_keys.any_filters.Given as goal
 
+abbrev pub filters : List ℕ → (at c : ℕ) → Bool
+filters keys at c = not (eqb (get_or keys (at + c) 0 % 64) 0)
+
 abbrev pub invariant-loop-c : goal.invariant-loop-c
 invariant-loop-c l = (l.c ≤ l.n) × (l.any ≡ found (filters l.keys l.at) l.c)
 
