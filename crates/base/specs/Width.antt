@@ -1,6 +1,6 @@
 -- The widths of lent samples: what each admits.
 -- Assumes nothing.
-use Rattle.std.specs.Prelude.{◌≡◌, refl, Bool, true, List, ℕ, ◌^◌, ◌≤◌, ◌<◌, eqb, get_or}
+use Rattle.std.specs.Prelude.{◌≡◌, Bool, true, List, ℕ, ◌^◌, ◌≤◌, ◌<◌, eqb, get_or}
 use Rattle.std.proofs.Common.{arith, eqb→eq}
 use Rattle.base.specs.Depth.{supported, depth_scaled}
 

@@ -1,8 +1,8 @@
 -- Laws of the keys of a chunk, for the code that spreads them.
 -- Assumes nothing.
-use Rattle.std.specs.Prelude.{◌≡◌, ◌⊎◌, Bool, true, false, cond, List, ℕ, ◌+◌, ◌*◌, ◌/◌, ◌%◌, ◌≤◌, ◌<◌, eqb, get_or, replicate}
-use Rattle.std.proofs.Common.{sym, ap, ◌∙◌, inl, inr, zero-add, arith}
-use Rattle.base.specs.Filled.{filled, filled_at}
+use Rattle.std.specs.Prelude.{◌≡◌, ◌⊎◌, Bool, true, false, List, ℕ, ◌+◌, ◌*◌, ◌/◌, ◌%◌, ◌≤◌, ◌<◌, get_or, replicate}
+use Rattle.std.proofs.Common.{ap, ◌∙◌, inl, inr, zero-add, arith}
+use Rattle.base.specs.Filled.{filled_at}
 use Rattle.decided.specs.KeyRuns.{key_for, Keyed}
 use Rattle.geometry.specs.Coordinates.{shr}
 use Rattle.geometry.specs.declared.Pass.{Pass}

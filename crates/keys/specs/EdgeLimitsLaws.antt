@@ -1,7 +1,7 @@
 -- The steps of a decision by the limits of its edge.
 -- Assumes nothing.
 use Rattle.std.specs.Prelude.{◌≡◌, refl, Bool, true, false, cond, not, ◌&&◌, ◌||◌, ℕ, zero, suc, ◌+◌, ◌-◌, ◌*◌, ◌/◌, ◌%◌, ◌^◌, ◌≤◌, ◌<◌, ltb, leb}
-use Rattle.std.proofs.Common.{◌∙◌, arith, lt-ltb, le-ltb, le-leb, ne_eqb, eqb-true}
+use Rattle.std.proofs.Common.{arith, lt-ltb, le-ltb, le-leb, ne_eqb, eqb-true}
 use Rattle.std.proofs.Math.Decide.{dec_lt}
 use Rattle.std.proofs.Math.Nat.{mul-add-div, mul-add-mod_self_left}
 use Rattle.std.proofs.lemmas.Bool.{lt-leb, not-false}

@@ -1,6 +1,6 @@
 -- Keys by plain numbers are the keys of the decisions, and a level lacks where a position decides so.
 -- Assumes nothing.
-use Rattle.std.specs.Prelude.{◌≡◌, Bool, cond, ◌&&◌, ◌||◌, List, ℕ, ◌+◌, ◌*◌, ◌/◌, ◌%◌, ◌≤◌, ◌<◌, ltb, length, get_or, replicate}
+use Rattle.std.specs.Prelude.{◌≡◌, Bool, ◌||◌, List, ℕ, ◌+◌, ◌*◌, ◌/◌, ◌%◌, ◌≤◌, ◌<◌, ltb, length, get_or, replicate}
 use Rattle.std.proofs.Math.Path.{refl, sym, ap}
 use Rattle.std.proofs.Common.{◌∙◌, inr, zero-add, arith, ext_get_or, take_all}
 use Rattle.std.proofs.Math.Bool.{true, false}
@@ -12,7 +12,6 @@ use Rattle.base.specs.First.{found, found_none, found-false}
 use Rattle.base.specs.FirstLaws.{found_same}
 use Rattle.base.specs.Tests.{neither}
 use Rattle.cells.specs.Cell.{cell_of}
-use Rattle.cells.specs.CellLaws.{cell_fields}
 use Rattle.edge_steps.specs.ScreenLaws.{seen, cell_below}
 use Rattle.edge_steps.specs.SuperblockFilter.{on_screen, apply_filter}
 use Rattle.geometry.specs.Coordinates.{shr}
@@ -28,7 +27,7 @@ use Rattle.decisions.specs.declared.Decision.{Decision}
 use Rattle.decisions.specs.LevellessLaws.{levelless_at_lem, levelless-behind, levelless_cell}
 use Rattle.keys.specs.EdgeLimitsLaws.{screen_by, block_by, transform_field, transform_by, size_by_limits, index_by}
 use Rattle.keys.specs.Keys.{key_of, key_at, key_in, keys_of}
-use Rattle.keys.specs.PlainKeys.{turned_of, pairs, limits_of, plain, field, key_by, lack_by, plain_key, plain_lack, base_of, place_from, word_from, word_in}
+use Rattle.keys.specs.PlainKeys.{turned_of, pairs, limits_of, plain, field, key_by, lack_by, plain_key, plain_lack, word_from, word_in}
 use Rattle.keys.specs.declared.turned.Turned.{Turned}
 
 turned_sub : (s : Superblock) (pass : Pass) (chroma : Bool) → (turned_of s pass chroma).sub ≡ sub s pass

@@ -6,9 +6,8 @@ use mathlib.Core.List.{List}
 use Prim.Native.Nat.{ℕ, ◌+◌, ◌*◌, ◌/◌, ◌<◌}
 use native.Mathlib.Nat.{zero-add}
 use native.Mathlib.Omega.{arith}
-use lib.Dec.{T}
-use lib.IntN.{ℤ, pos, negsuc, nat_abs}
-use lib.Signed.{lt_z, non_neg}
+use lib.IntN.{ℤ, pos, nat_abs}
+use lib.Signed.{lt_z}
 use Rattle.base.specs.Filled.{filled, filled_join, filled_same}
 use Rattle.base.specs.Notation.{clip3}
 use Rattle.levels.specs.Levels.{clipped_level, lvl_seg, segment_lvl, place_lvl}

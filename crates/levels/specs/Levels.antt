@@ -1,7 +1,6 @@
 -- The level table of a frame: loop_filter_frame_init( ), 8.8.1.
 -- Assumes nothing.
-use Rattle.std.specs.Prelude.{Bool, true, false, cond, not, ◌&&◌, List, ℕ, ◌+◌, ◌*◌, ◌/◌, ◌%◌, eqb, ltb, ℤ, pos, nat_abs, ◌+ℤ◌, get_or, replicate}
-use Rattle.std.specs.Int.Signed.{lt_z}
+use Rattle.std.specs.Prelude.{cond, not, ◌&&◌, List, ℕ, ◌+◌, ◌/◌, ◌%◌, eqb, ltb, ℤ, pos, nat_abs, ◌+ℤ◌, get_or}
 use Rattle.base.specs.Filled.{filled}
 use Rattle.base.specs.Notation.{clip3, shl_z}
 use Rattle.base.specs.Outcome.{Outcome, accepted, refuse, Returned}

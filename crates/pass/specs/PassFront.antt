@@ -1,19 +1,19 @@
 -- A pass reads no cell behind those of its superblock row, of which there are at most 65,536 (`pass-front`).
 -- Assumes nothing.
-use Rattle.std.specs.Prelude.{◌≡◌, Bool, not, ◌||◌, ◌&&◌, ℕ, zero, suc, ◌+◌, ◌*◌, ◌/◌, ◌%◌, ◌^◌, ◌<◌, ◌≤◌, length, get_or, take}
+use Rattle.std.specs.Prelude.{◌≡◌, Bool, not, ◌||◌, ℕ, zero, suc, ◌*◌, ◌/◌, ◌%◌, ◌^◌, ◌<◌, ◌≤◌, length, get_or, take}
 use Rattle.std.proofs.Math.Path.{refl, ap}
 use Rattle.std.proofs.Common.{sym, ◌∙◌, arith, ltb-true, le-ltb, length-take-le, take_all}
 use Rattle.std.proofs.Math.Bool.{true, false}
 use mathlib.Core.List.{List, Memᴰ, [], ◌∷◌}
 use Rattle.std.proofs.Math.Decide.{dec_lt}
 use Rattle.std.proofs.Math.Dec.{ltb}
-use Rattle.base.specs.First.{found, first, refuse_first}
+use Rattle.base.specs.First.{refuse_first}
 use Rattle.base.specs.FirstLaws.{found_same, first_same}
 use Rattle.base.specs.Outcome.{Outcome, accepted, refuse}
 use Rattle.base.specs.Width.{Width, admits}
 use Rattle.cells.specs.Cell.{cell_of}
 use Rattle.bad_words.specs.BadWord.{bad_word, bad_cell}
-use Rattle.decided.specs.Decided.{Position, position, Setting, setting, setting_of, superblock_of, decision_at, is_decided, decided, filters}
+use Rattle.decided.specs.Decided.{Position, position, Setting, setting, superblock_of, decision_at, is_decided, decided}
 use Rattle.decisions.specs.Decision.{cell_index, decision_by, decision, without_level, levelless}
 use Rattle.decisions.specs.declared.Decision.{Decision}
 use Rattle.edge_steps.specs.ScreenLaws.{seen, cell_below}
@@ -25,11 +25,10 @@ use Rattle.geometry.specs.declared.Pass.{Pass}
 use Rattle.geometry.specs.declared.Superblock.{Superblock}
 use Rattle.order.specs.Grid.{grid, grid_mem, select_mem, select_same}
 use Rattle.order.specs.Order.{run, run_same}
-use Rattle.positions.specs.Positions.{Placed, luma_x, luma_y, plane_x, plane_y}
+use Rattle.positions.specs.Positions.{Placed, luma_x, luma_y}
 use Rattle.pass_edges.specs.PassEdges.{edge_count, edge_len, pass_of}
 use Rattle.positions.specs.PositionsLaws.{placed}
-use Rattle.window.specs.Stencil.{applied}
-use Rattle.window.specs.Window.{bad_window, bad_sample, stencil}
+use Rattle.window.specs.Window.{bad_window, bad_sample}
 use Rattle.window.specs.declared.WindowShape.{WindowShape}
 use Rattle.pass.specs.Pass.{line_of, step, superblock_loop_filter, superblock_loop_filter_cells}
 

@@ -10,7 +10,7 @@ use Rattle.base.specs.OutcomeLaws.{refuse-place}
 use Rattle.base.specs.Tests.{neither}
 use Rattle.blocks.specs.BlockSizesLaws.{width_small, height_small}
 use Rattle.blocks.specs.ModeInfo.{sb_size}
-use Rattle.blocks.specs.ModeInfoLaws.{block, sb_size_small}
+use Rattle.blocks.specs.ModeInfoLaws.{sb_size_small}
 use Rattle.geometry.specs.Frame.{bad_subsampling, bad_frame_size, bad_start, cells_from}
 use Rattle.geometry.specs.FrameLaws.{sized, cells_small}
 use Rattle.level_lookup.specs.LevelLookupLaws.{lookup_small}

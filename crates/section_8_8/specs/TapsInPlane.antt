@@ -1,12 +1,12 @@
 -- No tap that a filter size reads lies outside of the frame: so the page is never asked for a sample that a plane does not have.
 -- Assumes nothing.
-use Rattle.std.specs.Prelude.{◌≡◌, refl, Bool, true, false, cond, not, ◌&&◌, ◌||◌, ◌⊎◌, ℕ, zero, suc, ◌+◌, ◌-◌, ◌*◌, ◌/◌, ◌%◌, ◌≤◌, ◌<◌, min, T, eqb, leb, ltb, get_or}
-use Rattle.std.proofs.Common.{sym, ◌∙◌, subst, inl, inr, ⊎_elim, arith, eqb-true, leb-false, ltb-false, eq-eqb}
+use Rattle.std.specs.Prelude.{◌≡◌, refl, Bool, true, false, cond, not, ◌&&◌, ◌||◌, ◌⊎◌, ℕ, zero, suc, ◌+◌, ◌-◌, ◌*◌, ◌/◌, ◌%◌, ◌≤◌, ◌<◌, min, T, eqb, leb, ltb}
+use Rattle.std.proofs.Common.{sym, subst, ⊎_elim, arith, eqb-true, leb-false, ltb-false, eq-eqb}
 use Rattle.std.proofs.lemmas.Bool.{eqb-false, not-true, not-false}
 use Rattle.base.specs.First.{found, found-false}
 use Rattle.base.specs.Notation.{◌<<◌, ◌>>◌}
 use Rattle.base.specs.Tests.{neither, either, both}
-use Rattle.section_8_8.specs.LoopFilterProcess.{Frame, sub_x, sub_y, num8x8_blocks_wide, num8x8_blocks_high, sb_size, is_intra, x, y, loop_col, loop_row, mi_size, tx_sz, is_block_edge, is_tx_edge, is32_edge, on_screen, apply_filter, filter_size}
+use Rattle.section_8_8.specs.LoopFilterProcess.{Frame, sub_x, sub_y, num8x8_blocks_wide, num8x8_blocks_high, sb_size, is_intra, x, y, loop_col, loop_row, mi_size, tx_sz, is_block_edge, is_tx_edge, on_screen, apply_filter, filter_size}
 
 -- the taps of each side that a filter size reads: p3 to q3, or p7 to q7
 abbrev pub taps_read : (filter_size : ℕ) → ℕ

@@ -1,7 +1,7 @@
 -- What the words of an accepted row decide of a position is what 8.8.2's steps 1 to 16 make of the frame: whether it is filtered
 -- (`decided-standard`), with which size and which level (`size-standard`, `level-standard`).
 -- Assumes nothing.
-use Rattle.std.specs.Prelude.{◌≡◌, Bool, not, ◌&&◌, ◌||◌, List, ℕ, zero, suc, ◌+◌, ◌-◌, ◌*◌, ◌/◌, ◌%◌, ◌^◌, ◌≤◌, ◌<◌, eqb, ltb, ℤ, pos, negsuc, nat_abs, get_or}
+use Rattle.std.specs.Prelude.{◌≡◌, Bool, not, ◌||◌, List, ℕ, zero, suc, ◌-◌, ◌^◌, ◌≤◌, ◌<◌, eqb, ltb, ℤ, pos, negsuc, nat_abs, get_or}
 use Rattle.std.proofs.Math.Path.{refl, sym, ap}
 use Rattle.std.proofs.Common.{◌∙◌, subst, lt-ltb, ne_eqb}
 use Rattle.std.proofs.Math.Bool.{true, false, cond}
@@ -16,9 +16,9 @@ use Rattle.cells.specs.declared.LfCell.{LfCell}
 use Rattle.decisions.specs.Decision.{cell_index, decision_by, decision}
 use Rattle.decisions.specs.declared.Decision.{Decision}
 use Rattle.edge_steps.specs.FilterSize.{filter_size}
-use Rattle.edge_steps.specs.ScreenLaws.{Seen, seen, cell_below, loop_cell_small, loop_cell_from}
+use Rattle.edge_steps.specs.ScreenLaws.{seen, cell_below, loop_cell_small, loop_cell_from}
 use Rattle.edge_steps.specs.StepsStandard.{loop_col_standard, loop_row_standard, block_edge_standard, tx_edge_standard, edge_32_standard, on_screen_standard, apply_standard, filter_size_standard}
-use Rattle.edge_steps.specs.SuperblockFilter.{loop_cell, is_block_edge, is_tx_edge, is32_edge, on_screen, apply_filter}
+use Rattle.edge_steps.specs.SuperblockFilter.{loop_cell, on_screen, apply_filter}
 use Rattle.geometry.specs.Frame.{cells_from}
 use Rattle.geometry.specs.FrameStandard.{superblock_at, pass_number, Subsampled}
 use Rattle.geometry.specs.declared.Pass.{Pass}

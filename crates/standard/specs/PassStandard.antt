@@ -5,7 +5,7 @@ use Rattle.std.specs.Prelude.{◌≡◌, Bool, cond, not, ◌&&◌, eqb, ltb}
 use Rattle.std.proofs.Math.Path.{refl, sym, ap}
 use Rattle.std.proofs.Common.{◌∙◌, subst, zero-add, add-one, arith}
 use Rattle.std.proofs.Math.Bool.{true, false}
-use mathlib.Core.List.{List, [], ◌++◌, append-nil, Memᴰ}
+use mathlib.Core.List.{List, ◌++◌, append-nil, Memᴰ}
 use Prim.Native.Nat.{ℕ, zero, suc, ◌+◌, ◌-◌, ◌*◌, ◌≤◌, ◌<◌}
 use Rattle.std.proofs.Math.Dec.{T}
 use Rattle.std.proofs.Math.ListN.{length}
@@ -14,7 +14,7 @@ use Rattle.base.specs.First.{found, found-false}
 use Rattle.base.specs.Notation.{◌>>◌}
 use Rattle.base.specs.Outcome.{accepted}
 use Rattle.decided.specs.Decided.{Position, position, Setting, setting, decision_at, is_decided, decided, superblock_of, setting_of}
-use Rattle.decisions.specs.Decision.{decision, without_level, levelless}
+use Rattle.decisions.specs.Decision.{without_level, levelless}
 use Rattle.decisions.specs.DecisionLaws.{decision_size}
 use Rattle.decisions.specs.LevellessLaws.{levelless_at_lem}
 use Rattle.decisions.specs.declared.Decision.{Decision}
@@ -45,8 +45,8 @@ use Rattle.strength.specs.StrengthStandard.{strength_standard}
 use Rattle.window.specs.Reach.{stencil_idle}
 use Rattle.window.specs.Stencil.{applied}
 use Rattle.window.specs.StencilLaws.{applied-length}
-use Rattle.window.specs.Window.{tap_x, tap_y, stencil}
-use Rattle.window.specs.WindowLaws.{Lent, Tap}
+use Rattle.window.specs.Window.{stencil}
+use Rattle.window.specs.WindowLaws.{Lent}
 use Rattle.window.specs.declared.WindowShape.{WindowShape}
 use Rattle.standard.specs.DecidedStandard.{decided_standard, size_standard, level_standard, block_known}
 use Rattle.standard.specs.FrameLists.{Holds, Entries}

@@ -1,15 +1,15 @@
 -- Samples in range stay in range: a position whose line filter keeps taps below a bound keeps the window's samples below it.
 -- Assumes nothing.
 use Rattle.std.specs.Prelude.{◌≡◌, Bool, true, false, List, ℕ, zero, suc, ◌+◌, ◌-◌, ◌*◌, ◌≤◌, ◌<◌, get_or}
-use Rattle.std.proofs.Common.{sym, ◌∙◌, subst, suc-mul, mul-le-mul_right, zero-add, arith, leb-false}
+use Rattle.std.proofs.Common.{sym, ◌∙◌, suc-mul, mul-le-mul_right, zero-add, arith, leb-false}
 use Rattle.base.specs.Filled.{set_below}
 use Rattle.base.specs.First.{found, found-false}
 use Rattle.geometry.specs.declared.Pass.{Pass}
-use Rattle.window.specs.Stencil.{Stencil, gather, taps, put, scatter, applied}
+use Rattle.window.specs.Stencil.{taps, put, scatter, applied}
 use Rattle.window.specs.StencilLaws.{gather_at}
 use Rattle.window.specs.SampleLaws.{in_row}
 use Rattle.window.specs.Window.{bad_sample, place, stencil, tap_x, tap_y}
-use Rattle.window.specs.WindowLaws.{Lent, Inside, clamp_inside}
+use Rattle.window.specs.WindowLaws.{Inside, clamp_inside}
 use Rattle.window.specs.declared.WindowShape.{WindowShape}
 
 -- every sample of the window is below the bound

@@ -1,9 +1,6 @@
-use borrow.Author.Rules.{rules}
-use mathlib.Core.Path.{◌≡◌, sym, ◌∙◌}
+use mathlib.Core.Path.{◌≡◌}
 use Prim.Native.Nat.{◌-◌, ◌≤◌}
-use native.Mathlib.Nat.{sub_self, sub-zero}
-use native.Mathlib.Omega.{arith}
-use Rattle.base.specs.First.{first_from, first, first_here, first_next, first_end}
+use Rattle.base.specs.First.{first_from, first}
 use Rattle.bad_words.specs.BadWord.{bad_cell}
 use Rattle.bad_words.proofs.first_bad_word_unchecked.Given as goal
 

@@ -1,11 +1,8 @@
-use borrow.Author.Rules.{rules}
-use mathlib.Core.Path.{◌≡◌, refl, ◌∙◌}
+use mathlib.Core.Path.{◌≡◌}
 use Prim.Native.Nat.{◌-◌, ◌≤◌}
-use native.Mathlib.Omega.{arith}
-use lib.ListN.{length, get_or, length-set}
-use Rattle.base.specs.Filled.{filled, filled_none}
+use lib.ListN.{length, get_or}
+use Rattle.base.specs.Filled.{filled}
 use Rattle.window.specs.Window.{tap_read}
-use Rattle.tap_places.specs.TurnLaws.{filled_next, filled-gather}
 use Rattle.byte_border.proofs.load.Given as goal
 
 abbrev pub invariant-loop-k : goal.invariant-loop-k

@@ -1,12 +1,8 @@
-use borrow.Author.Rules.{rules}
-use mathlib.Core.Path.{◌≡◌, refl, ◌∙◌}
+use mathlib.Core.Path.{◌≡◌}
 use Prim.Native.Nat.{◌-◌, ◌≤◌}
-use native.Mathlib.Omega.{arith}
 use lib.ListN.{length, get_or}
 use Rattle.window.specs.Stencil.{scatter}
-use Rattle.window.specs.StencilLaws.{scatter_none}
 use Rattle.window.specs.Window.{tap_stored, tap_written}
-use Rattle.tap_places.specs.TurnLaws.{scatter_next}
 use Rattle.byte_border.proofs.store.Given as goal
 
 abbrev pub invariant-loop-k : goal.invariant-loop-k

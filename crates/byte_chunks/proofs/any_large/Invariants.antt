@@ -1,12 +1,8 @@
-use borrow.Author.Rules.{rules}
 use mathlib.Core.Path.{◌≡◌}
-use mathlib.Core.Bool.{Bool}
-use mathlib.Core.List.{List}
-use Prim.Native.Nat.{ℕ, ◌-◌, ◌≤◌}
-use native.Mathlib.Omega.{arith}
+use Prim.Native.Nat.{◌-◌, ◌≤◌}
 use lib.Dec.{leb}
 use lib.ListN.{get_or}
-use Rattle.base.specs.First.{found, found-start, found_more}
+use Rattle.base.specs.First.{found}
 use Rattle.byte_chunks.proofs.any_large.Given as goal
 
 abbrev pub invariant-loop-l : goal.invariant-loop-l

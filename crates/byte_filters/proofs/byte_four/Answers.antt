@@ -3,7 +3,6 @@ use mathlib.Core.Bool.{Bool}
 use mathlib.Core.List.{[], ◌∷◌}
 use Prim.Native.Nat.{◌%◌, ◌/◌}
 use lib.Dec.{eqb}
-use borrow.Author.Rules.{rules}
 use Rattle.line.specs.Masks.{hev_mask}
 use Rattle.line.specs.NarrowFilter.{narrow_filter}
 use Rattle.byte_filters.specs.ByteSamples.{bytes_of, byte_four_of}

@@ -1,7 +1,6 @@
 use mathlib.Core.Path.{refl}
 use mathlib.Core.List.{[], ◌∷◌}
 use lib.Dec.{eqb}
-use borrow.Author.Rules.{rules}
 use Rattle.wide_filter.specs.WideFilter.{wide_filter}
 use Rattle.byte_filters.specs.ByteSamples.{bytes_of, byte_six_of}
 use Rattle.byte_filters.specs.Picks.{put-picks}

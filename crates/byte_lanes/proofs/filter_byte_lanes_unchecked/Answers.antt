@@ -1,5 +1,3 @@
-use borrow.Author.Rules.{rules}
-use mathlib.Core.Logic.{⊎_elim}
 use Rattle.byte_lanes.specs.ByteLanes.{narrow_lane, wide_lane, Stage}
 use Rattle.byte_lanes.specs.ByteLanesLaws.{stage_on, stage_off, lanes_filtered}
 use Rattle.byte_lanes.proofs.filter_byte_lanes_unchecked.Goals as goal

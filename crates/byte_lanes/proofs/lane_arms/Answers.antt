@@ -1,9 +1,7 @@
-use borrow.Author.Rules.{rules}
 use mathlib.Core.Path.{◌≡◌, refl, ◌∙◌}
-use Prim.Native.Nat.{◌-◌, ◌≤◌}
+use Prim.Native.Nat.{◌-◌}
 use native.Mathlib.Omega.{arith}
 use lib.ListN.{length, length-set}
-use Rattle.byte_lanes.specs.ByteLanes.{ArmsTo}
 use Rattle.byte_lanes.specs.ByteLanesLaws.{arms_none, arms_more}
 use Rattle.byte_lanes.proofs.lane_arms.Goals as goal
 

@@ -1,10 +1,7 @@
-use borrow.Author.Rules.{rules}
-use mathlib.Core.Path.{◌≡◌, refl, ◌∙◌}
+use mathlib.Core.Path.{◌≡◌}
 use Prim.Native.Nat.{◌-◌, ◌≤◌}
-use native.Mathlib.Omega.{arith}
-use lib.ListN.{length, length-set}
+use lib.ListN.{length}
 use Rattle.byte_lanes.specs.ByteLanes.{ArmsTo}
-use Rattle.byte_lanes.specs.ByteLanesLaws.{arms_none, arms_more}
 use Rattle.byte_lanes.proofs.lane_arms.Given as goal
 
 abbrev pub invariant-loop-l : goal.invariant-loop-l

@@ -1,12 +1,7 @@
-use borrow.Author.Rules.{rules}
-use mathlib.Core.Path.{◌≡◌}
-use Prim.Native.Nat.{◌-◌, ◌≤◌}
+use Prim.Native.Nat.{◌-◌}
 use native.Mathlib.Omega.{arith}
-use lib.ListN.{length}
 use Rattle.byte_filters.specs.ByteSamples.{byte_four_of}
-use Rattle.lanes.specs.Lanes.{EachLaneTo}
 use Rattle.lanes.specs.LanesLaws.{lanes_none, lanes_all, lane_more}
-use Rattle.byte_lanes.specs.ByteLanes.{arm_lane, narrow_lane}
 use Rattle.byte_lanes.proofs.lanes_four.Goals as goal
 
 pub loop-l-init : goal.loop-l-init

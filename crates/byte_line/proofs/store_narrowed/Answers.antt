@@ -1,10 +1,9 @@
-use borrow.Author.Rules.{rules}
 use mathlib.Core.Path.{◌≡◌, refl}
-use Prim.Native.Nat.{◌-◌, ◌≤◌}
+use Prim.Native.Nat.{◌-◌}
 use native.Mathlib.Omega.{arith}
 use lib.ListN.{length, length-set}
 use lib.Seq.{take_all}
-use Rattle.base.specs.Copied.{copied, copied_none, copied_more}
+use Rattle.base.specs.Copied.{copied_none, copied_more}
 use Rattle.byte_line.proofs.store_narrowed.Goals as goal
 
 pub loop-k-init : goal.loop-k-init

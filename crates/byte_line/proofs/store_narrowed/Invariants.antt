@@ -1,10 +1,7 @@
-use borrow.Author.Rules.{rules}
-use mathlib.Core.Path.{◌≡◌, refl}
+use mathlib.Core.Path.{◌≡◌}
 use Prim.Native.Nat.{◌-◌, ◌≤◌}
-use native.Mathlib.Omega.{arith}
-use lib.ListN.{length, length-set}
-use lib.Seq.{take_all}
-use Rattle.base.specs.Copied.{copied, copied_none, copied_more}
+use lib.ListN.{length}
+use Rattle.base.specs.Copied.{copied}
 use Rattle.byte_line.proofs.store_narrowed.Given as goal
 
 abbrev pub invariant-loop-k : goal.invariant-loop-k

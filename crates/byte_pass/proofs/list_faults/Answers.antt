@@ -1,6 +1,4 @@
-use borrow.Author.Rules.{rules}
 use mathlib.Core.Path.{◌≡◌, sym, ◌∙◌}
-use Prim.Native.Nat.{ℕ}
 use Rattle.base.specs.First.{found}
 use Rattle.bad_words.specs.BadWord.{bad_cell}
 use Rattle.geometry.specs.Frame.{cells_from}

@@ -1,4 +1,3 @@
-use borrow.Author.Rules.{rules}
 use mathlib.Core.Path.{◌∙◌}
 use Rattle.decided.specs.Decided.{Setting, setting}
 use Rattle.decided.specs.KeyRunLaws.{keys_small}

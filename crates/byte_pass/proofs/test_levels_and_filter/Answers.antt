@@ -1,5 +1,4 @@
-use borrow.Author.Rules.{rules}
-use mathlib.Core.Path.{◌≡◌, refl, sym, ◌∙◌}
+use mathlib.Core.Path.{refl, sym, ◌∙◌}
 use Prim.Native.Nat.{◌/◌, ◌≤◌}
 use lib.ListN.{length}
 use Rattle.decided.specs.Decided.{Setting, setting}

@@ -1,4 +1,3 @@
-use borrow.Author.Rules.{rules}
 use Rattle.cells.specs.Cell.{packed}
 use Rattle.cells.proofs.pack_unchecked.Goals as goal
 

@@ -1,10 +1,7 @@
-use borrow.Author.Rules.{rules}
 use mathlib.Core.Path.{◌≡◌}
-use native.Mathlib.Nat.{zero-add}
-use native.Mathlib.Omega.{arith}
 use Prim.Native.Nat.{◌-◌, ◌≤◌}
 use lib.ListN.{replicate}
-use Rattle.base.specs.Filled.{filled, filled_none, filled_more}
+use Rattle.base.specs.Filled.{filled}
 use Rattle.chroma_transforms.specs.ChromaTransforms.{uv_limit}
 use Rattle.chroma_transforms.proofs.uv_limit_table.Given as goal
 

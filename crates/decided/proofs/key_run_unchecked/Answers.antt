@@ -1,4 +1,3 @@
-use borrow.Author.Rules.{rules}
 use mathlib.Core.Path.{◌≡◌}
 use Rattle.decided.specs.KeyRuns.{key_run}
 use Rattle.decided.specs.KeyRunLaws.{run_small}

@@ -1,4 +1,3 @@
-use borrow.Author.Rules.{rules}
 use mathlib.Core.Path.{◌∙◌}
 use mir.Syntax.{w8}
 use Rattle.base.specs.Machine.{back}

@@ -1,4 +1,3 @@
-use borrow.Author.Rules.{rules}
 use borrow.Author.Tests.{lt-ltb, le-ltb}
 use Rattle.frame_header.specs.Params.{seg_feature_active}
 use Rattle.frame_header.proofs.seg_feature_active.Goals as goal

@@ -1,4 +1,3 @@
-use borrow.Author.Rules.{rules}
 use mathlib.Core.Path.{◌∙◌}
 use Rattle.word_bytes.specs.WordBytes.{words_of}
 use Rattle.word_bytes.specs.WordBytesLaws.{words_of-length}

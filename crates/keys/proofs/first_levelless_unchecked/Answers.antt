@@ -1,4 +1,3 @@
-use borrow.Author.Rules.{rules}
 use mathlib.Core.Path.{◌∙◌}
 use Rattle.keys.specs.FetchedLaws.{first_told}
 use Rattle.keys.proofs.first_levelless_unchecked.Goals as goal

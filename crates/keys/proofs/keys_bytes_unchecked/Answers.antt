@@ -1,4 +1,3 @@
-use borrow.Author.Rules.{rules}
 use Rattle.word_bytes.specs.WordBytes.{words_of}
 use Rattle.word_bytes.specs.WordBytesLaws.{words_of-length}
 use Rattle.keys.specs.FetchedLaws.{told}

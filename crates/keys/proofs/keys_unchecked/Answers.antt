@@ -1,4 +1,3 @@
-use borrow.Author.Rules.{rules}
 use Rattle.keys.specs.FetchedLaws.{told}
 use Rattle.keys.proofs.keys_unchecked.Goals as goal
 

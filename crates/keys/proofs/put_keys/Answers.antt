@@ -1,11 +1,9 @@
-use borrow.Author.Rules.{rules}
 use mathlib.Core.Path.{◌≡◌}
-use Prim.Native.Nat.{◌-◌, ◌*◌, ◌≤◌}
+use Prim.Native.Nat.{◌-◌, ◌*◌}
 use native.Mathlib.Nat.{add-zero}
 use native.Mathlib.Omega.{arith}
-use Rattle.base.specs.Filled.{filled, filled_none}
+use Rattle.base.specs.Filled.{filled_none}
 use Rattle.base.specs.First.{found, found-start}
-use Rattle.keys.specs.PlainKeys.{plain_key, plain_lack}
 use Rattle.keys.specs.PlainKeysLaws.{more_keys, more_lacks}
 use Rattle.keys.proofs.put_keys.Goals as goal
 

@@ -1,9 +1,7 @@
-use borrow.Author.Rules.{rules}
 use mathlib.Core.Path.{◌≡◌}
-use Prim.Native.Nat.{◌+◌, ◌-◌, ◌*◌, ◌%◌, ◌≤◌}
-use native.Mathlib.Omega.{arith}
-use Rattle.base.specs.Filled.{filled, filled_none, filled_more}
-use Rattle.base.specs.First.{found, found-start, found_more}
+use Prim.Native.Nat.{◌+◌, ◌-◌, ◌*◌, ◌≤◌}
+use Rattle.base.specs.Filled.{filled}
+use Rattle.base.specs.First.{found}
 use Rattle.keys.specs.PlainKeys.{key_by, lack_by}
 use Rattle.keys.proofs.put_pair.Given as goal
 

@@ -1,6 +1,4 @@
-use borrow.Author.Rules.{rules}
 use mathlib.Core.Path.{refl, sym, ◌∙◌}
-use borrow.Author.Tests.{not-true, not-false}
 use Rattle.line.specs.SampleFilteringLaws.{filters_none, filters_narrow}
 use Rattle.lane_filters.specs.LaneSamples.{samples_of}
 use Rattle.lane_filters.proofs.lane_four_unchecked.Goals as goal

@@ -1,4 +1,3 @@
-use borrow.Author.Rules.{rules}
 use Rattle.lane_filters.proofs.lane_mask_unchecked.Goals as goal
 
 pub returns : goal.returns

@@ -1,10 +1,7 @@
-use borrow.Author.Rules.{rules}
 use mathlib.Core.Path.{◌≡◌}
-use mathlib.Core.Bool.{false}
-use Prim.Native.Nat.{◌-◌, ◌≤◌}
+use Prim.Native.Nat.{◌-◌}
 use native.Mathlib.Omega.{arith}
 use Rattle.base.specs.Tests.{neither}
-use Rattle.lanes.specs.Lanes.{NoneTo}
 use Rattle.lanes.specs.LanesLaws.{none_none, none_more, small_at}
 use Rattle.lanes.proofs.any_mask.Goals as goal
 

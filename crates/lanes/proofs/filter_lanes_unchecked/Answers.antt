@@ -3,7 +3,6 @@ use mathlib.Core.Path.{◌≡◌, refl}
 use mathlib.Core.Bool.{Bool, true, false}
 use Prim.Native.Nat.{ℕ}
 use native.Mathlib.Omega.{arith}
-use borrow.Author.Tests.{not-true}
 use Rattle.lanes.specs.LanesLaws.{lanes_fewer, none_kept}
 use Rattle.lanes.proofs.filter_lanes_unchecked.Goals as goal
 

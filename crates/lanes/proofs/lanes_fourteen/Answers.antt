@@ -1,11 +1,6 @@
-use borrow.Author.Rules.{rules}
-use mathlib.Core.Path.{◌≡◌}
-use Prim.Native.Nat.{◌-◌, ◌≤◌}
+use Prim.Native.Nat.{◌-◌}
 use native.Mathlib.Omega.{arith}
-use lib.ListN.{length}
-use Rattle.line.specs.SampleFiltering.{sample_filtering}
 use Rattle.lane_filters.specs.LaneSamples.{fourteen_of}
-use Rattle.lanes.specs.Lanes.{LanesTo}
 use Rattle.lanes.specs.LanesLaws.{lanes_none, lanes_all, lane_more, lane_samples, small_in}
 use Rattle.lanes.proofs.lanes_fourteen.Goals as goal
 

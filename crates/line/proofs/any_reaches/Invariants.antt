@@ -1,8 +1,6 @@
-use borrow.Author.Rules.{rules}
 use mathlib.Core.Path.{◌≡◌}
 use Prim.Native.Nat.{◌-◌, ◌≤◌}
-use native.Mathlib.Omega.{arith}
-use Rattle.base.specs.First.{found, found-start, found_more}
+use Rattle.base.specs.First.{found}
 use Rattle.line.specs.Line.{reaches}
 use Rattle.line.proofs.any_reaches.Given as goal
 

@@ -1,11 +1,7 @@
-use borrow.Author.Rules.{rules}
-use mathlib.Core.Path.{◌≡◌, refl, sym, ◌∙◌}
+use mathlib.Core.Path.{◌≡◌}
 use Prim.Native.Nat.{◌-◌, ◌≤◌}
-use native.Mathlib.Omega.{arith}
-use borrow.Author.Tests.{le-leb, lt-leb}
-use Rattle.base.specs.First.{first_from, first, first_here, first_next, first_end}
+use Rattle.base.specs.First.{first_from, first}
 use Rattle.line.specs.Line.{reaches}
-use Rattle.wide_filter.specs.Taps.{tap}
 use Rattle.line.proofs.first_reaching.Given as goal
 
 abbrev pub invariant-loop-k : goal.invariant-loop-k

@@ -1,11 +1,9 @@
-use borrow.Author.Rules.{rules}
 use mathlib.Core.Path.{◌≡◌, refl, sym, ◌∙◌}
 use mathlib.Core.Bool.{true, false}
 use Prim.Native.Nat.{ℕ, ◌*◌, ◌^◌}
 use native.Mathlib.Omega.{arith}
-use borrow.Author.Tests.{not-true, not-false}
 use Rattle.base.specs.Depth.{supported, scaled, depth_scaled}
-use Rattle.base.specs.First.{first, found}
+use Rattle.base.specs.First.{found}
 use Rattle.base.specs.Width.{U16}
 use Rattle.line.specs.Line.{reaches}
 use Rattle.line.specs.LineLaws.{line_depth, line-sample, line_size, line-filtered}

@@ -1,8 +1,6 @@
-use borrow.Author.Rules.{rules}
 use mathlib.Core.Path.{◌≡◌, ◌∙◌}
 use mathlib.Core.Bool.{Bool, true, false, not, ◌||◌}
 use lib.Dec.{eqb}
-use borrow.Author.Tests.{not-true, not-false}
 use Rattle.base.specs.Depth.{scaled}
 use Rattle.line.specs.Masks.{filter_mask, flat_mask, flat_mask2}
 use Rattle.line.specs.SampleFilteringLaws.{filters_none, filters_narrow, filters-six, filters-fourteen}

@@ -1,11 +1,9 @@
-use borrow.Author.Rules.{rules}
 use mathlib.Core.List.{[]}
 use Rattle.base.specs.Outcome.{accepted}
 use Rattle.window.specs.RangeLaws.{tested_range}
 use Rattle.faults.specs.FaultsLaws.{lent_passed}
 use Rattle.pass.proofs.Refusals.{refused_answer, passed_on, answers_on}
 use Rattle.pass.proofs.test_lists_and_filter.Goals as goal
-use Rattle.pass.proofs.test_lists_and_filter.Lts as lts
 
 pub test_levels_and_filter-requires : goal.test_levels_and_filter-requires
 test_levels_and_filter-requires c =

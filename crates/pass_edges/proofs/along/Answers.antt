@@ -1,4 +1,3 @@
-use borrow.Author.Rules.{rules}
 use Rattle.pass_edges.proofs.along.Goals as goal
 
 pub returns-in-Vertical : goal.returns-in-Vertical

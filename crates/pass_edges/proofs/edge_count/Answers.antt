@@ -1,4 +1,3 @@
-use borrow.Author.Rules.{rules}
 use Rattle.pass_edges.specs.PassEdges.{edge_count}
 use Rattle.pass_edges.proofs.edge_count.Goals as goal
 

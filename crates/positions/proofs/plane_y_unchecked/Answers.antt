@@ -1,4 +1,3 @@
-use borrow.Author.Rules.{rules}
 use native.Mathlib.Omega.{arith}
 use Rattle.geometry.specs.CoordinatesLaws.{shr_small}
 use Rattle.positions.specs.Positions.{plane_y}

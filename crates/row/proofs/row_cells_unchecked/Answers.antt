@@ -7,7 +7,7 @@ use native.Mathlib.Nat.{zero-add}
 use native.Mathlib.Omega.{arith}
 use lib.ListN.{length, get_or, length-set}
 use mir.Syntax.{w32}
-use Rattle.base.specs.Filled.{filled, filled_none, filled_more}
+use Rattle.base.specs.Filled.{filled_none, filled_more}
 use Rattle.base.specs.First.{found-false}
 use Rattle.base.specs.Machine.{back}
 use Rattle.blocks.specs.BlockSizes.{by_size}

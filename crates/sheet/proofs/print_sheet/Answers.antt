@@ -1,13 +1,10 @@
-use borrow.Author.Rules.{rules}
 use mathlib.Core.Bool.{true, false}
-use mathlib.Core.List.{List, [], ◌∷◌}
+use mathlib.Core.List.{List, []}
 use mathlib.Core.Logic.{⊎_elim}
 use mathlib.Core.Path.{◌≡◌, refl, sym, ap, ◌∙◌, subst}
 use Prim.Native.Nat.{ℕ}
-use native.Mathlib.Omega.{arith}
 use Rattle.base.specs.Outcome.{Outcome, accepted, refused}
 use Rattle.decided.specs.declared.EdgeRun.{EdgeRun}
-use Rattle.faults.specs.contracts.PassAnswer.{the_type}
 use Rattle.faults.specs.Faults.{returned_of}
 use Rattle.faults.specs.declared.PassAnswer.{PassAnswer}
 use Rattle.faults.specs.declared.PassAnswer.TheVariants.{Done}
@@ -18,7 +15,6 @@ use Rattle.sheet.specs.Sheet.{cells_of, cells_runs, sheet_runs}
 use Rattle.sheet_header.specs.SheetHeaderLaws.{header_narrow}
 use Rattle.sheet.specs.SheetFits.{Tame, sheet_tame}
 use Rattle.sheet.specs.SheetLaws.{sheet_short, sheet_spare, sheet_rest, sheet_text}
-use Rattle.sheet_header.specs.declared.SheetHeader.{SheetHeader}
 use Rattle.sheet.proofs.print_sheet.Goals as goal
 use Rattle.sheet.proofs.print_sheet.Tie as tie
 use Rattle.sheet.proofs.print_sheet.Lts as lts

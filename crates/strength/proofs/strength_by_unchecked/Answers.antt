@@ -1,4 +1,3 @@
-use borrow.Author.Rules.{rules}
 use native.Mathlib.Omega.{arith}
 use Rattle.strength.specs.Strength.{strength_of}
 use Rattle.strength.specs.StrengthLaws.{limit_small}

@@ -1,4 +1,3 @@
-use borrow.Author.Rules.{rules}
 use borrow.Author.Tests.{lt-ltb, le-ltb}
 use Rattle.strength.specs.Strength.{strength_for}
 use Rattle.strength.proofs.strength_for_level.Goals as goal

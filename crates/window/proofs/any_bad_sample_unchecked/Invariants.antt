@@ -1,10 +1,7 @@
-use borrow.Author.Rules.{rules}
 use mathlib.Core.Path.{◌≡◌}
 use Prim.Native.Nat.{◌-◌, ◌*◌, ◌≤◌}
-use native.Mathlib.Omega.{arith}
 use Rattle.base.specs.First.{found}
 use Rattle.window.specs.Window.{bad_sample}
-use Rattle.window.specs.SampleLaws.{row_room, rows_none, rows_more}
 use Rattle.window.proofs.any_bad_sample_unchecked.Given as goal
 
 abbrev pub invariant-loop-row : goal.invariant-loop-row

@@ -1,12 +1,8 @@
-use borrow.Author.Rules.{rules}
-use mathlib.Core.Path.{◌≡◌, sym, ◌∙◌}
+use mathlib.Core.Path.{◌≡◌}
 use mathlib.Core.Bool.{false}
 use Prim.Native.Nat.{◌-◌, ◌*◌, ◌≤◌}
-use native.Mathlib.Omega.{arith}
-use Rattle.base.specs.First.{found, first_small}
-use Rattle.base.specs.FirstLaws.{first_nowhere}
-use Rattle.window.specs.Window.{bad_sample, reaches}
-use Rattle.window.specs.SampleLaws.{row_room, rows_none, rows_more, rows_first, samples_small}
+use Rattle.base.specs.First.{found}
+use Rattle.window.specs.Window.{bad_sample}
 use Rattle.window.proofs.first_bad_sample_unchecked.Given as goal
 
 abbrev pub invariant-loop-row : goal.invariant-loop-row

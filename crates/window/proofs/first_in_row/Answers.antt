@@ -1,11 +1,11 @@
 use borrow.Author.Rules.{rules}
 use mathlib.Core.Path.{◌≡◌, sym, ◌∙◌}
-use Prim.Native.Nat.{◌+◌, ◌-◌, ◌≤◌}
+use Prim.Native.Nat.{◌+◌, ◌-◌}
 use native.Mathlib.Nat.{sub-zero}
 use native.Mathlib.Omega.{arith}
 use lib.ListN.{get_or}
 use borrow.Author.Tests.{le-leb, lt-leb}
-use Rattle.base.specs.First.{first_from, first, first_here, first_next, first_end}
+use Rattle.base.specs.First.{first_here, first_next, first_end}
 use Rattle.window.specs.Window.{reaches}
 use Rattle.window.proofs.first_in_row.Goals as goal
 

@@ -1,11 +1,6 @@
-use borrow.Author.Rules.{rules}
-use mathlib.Core.Path.{◌≡◌, sym, ◌∙◌}
-use Prim.Native.Nat.{◌+◌, ◌-◌, ◌≤◌}
-use native.Mathlib.Nat.{sub-zero}
-use native.Mathlib.Omega.{arith}
-use lib.ListN.{get_or}
-use borrow.Author.Tests.{le-leb, lt-leb}
-use Rattle.base.specs.First.{first_from, first, first_here, first_next, first_end}
+use mathlib.Core.Path.{◌≡◌}
+use Prim.Native.Nat.{◌-◌, ◌≤◌}
+use Rattle.base.specs.First.{first_from, first}
 use Rattle.window.specs.Window.{reaches}
 use Rattle.window.proofs.first_in_row.Given as goal
 

@@ -1,8 +1,6 @@
-use borrow.Author.Rules.{rules}
 use mathlib.Core.Path.{◌≡◌}
 use Prim.Native.Nat.{◌-◌, ◌≤◌}
-use native.Mathlib.Omega.{arith}
-use Rattle.base.specs.First.{found, found-start, found_more}
+use Rattle.base.specs.First.{found}
 use Rattle.word_bytes.specs.WordBytes.{words_of}
 use Rattle.bad_words.specs.BadWord.{bad_cell}
 use Rattle.bad_words.proofs.bytes.any_bad_word_bytes_unchecked.Given as goal

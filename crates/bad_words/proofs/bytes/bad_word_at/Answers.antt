@@ -1,5 +1,3 @@
-use borrow.Author.Rules.{rules}
-use mathlib.Core.Path.{◌≡◌}
 use Rattle.word_bytes.specs.WordBytesLaws.{words_of_each}
 use Rattle.bad_words.proofs.bytes.bad_word_at.Goals as goal
 

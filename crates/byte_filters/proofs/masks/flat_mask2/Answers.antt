@@ -1,4 +1,3 @@
-use borrow.Author.Rules.{rules}
 use Rattle.line.specs.Masks.{flat_at, flat_mask2}
 use Rattle.byte_filters.proofs.masks.flat_mask2.Goals as goal
 

@@ -1,4 +1,3 @@
-use borrow.Author.Rules.{rules}
 use Rattle.byte_filters.proofs.masks.near.Goals as goal
 
 pub returns : goal.returns

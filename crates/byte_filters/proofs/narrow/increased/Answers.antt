@@ -1,4 +1,3 @@
-use borrow.Author.Rules.{rules}
 use native.Mathlib.Omega.{arith}
 use Rattle.byte_filters.specs.SaturatingLaws.{moved}
 use Rattle.lane_filters.specs.RaisedFilter.{increased}

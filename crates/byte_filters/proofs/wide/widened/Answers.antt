@@ -1,4 +1,3 @@
-use borrow.Author.Rules.{rules}
 use native.Mathlib.Omega.{arith}
 use Rattle.byte_filters.specs.ByteBounds.{below_none, below_next, below_within}
 use Rattle.byte_filters.proofs.wide.widened.Goals as goal

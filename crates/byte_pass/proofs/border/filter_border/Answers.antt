@@ -1,15 +1,8 @@
-use borrow.Author.Rules.{rules}
 use mathlib.Core.Path.{◌≡◌, refl, ◌∙◌}
-use mathlib.Core.List.{List}
-use Prim.Native.Nat.{ℕ, ◌+◌, ◌-◌, ◌≤◌}
+use Prim.Native.Nat.{◌-◌}
 use native.Mathlib.Omega.{arith}
-use lib.ListN.{length, get_or}
-use Rattle.geometry.specs.declared.Pass.{Pass}
-use Rattle.pass.specs.Chunks.{keyed_run}
 use Rattle.tap_places.specs.TurnLaws.{in_turn_next}
-use Rattle.window.specs.Stencil.{Stencil, in_turn}
 use Rattle.window.specs.StencilLaws.{in_turn_none}
-use Rattle.window.specs.declared.WindowShape.{WindowShape}
 use Rattle.byte_pass.proofs.border.filter_border.Goals as goal
 use Rattle.byte_pass.proofs.border.filter_border.Invariants.{family}
 

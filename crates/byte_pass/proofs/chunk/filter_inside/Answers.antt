@@ -1,5 +1,4 @@
-use borrow.Author.Rules.{rules}
-use mathlib.Core.Path.{◌≡◌, ◌∙◌}
+use mathlib.Core.Path.{◌∙◌}
 use lib.ListN.{get_or}
 use Rattle.pass.specs.ChunkLaws.{keyed_inside}
 use Rattle.runs.specs.RunsLaws.{inside_spaced, one_step}

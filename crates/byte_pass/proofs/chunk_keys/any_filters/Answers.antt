@@ -1,11 +1,6 @@
-use borrow.Author.Rules.{rules}
-use mathlib.Core.Bool.{Bool, not}
-use mathlib.Core.List.{List}
 use mathlib.Core.Path.{◌≡◌}
-use Prim.Native.Nat.{ℕ, ◌+◌, ◌-◌, ◌%◌, ◌≤◌}
+use Prim.Native.Nat.{◌-◌}
 use native.Mathlib.Omega.{arith}
-use lib.Dec.{eqb}
-use lib.ListN.{get_or}
 use Rattle.base.specs.First.{found, found-start, found_more}
 use Rattle.byte_pass.proofs.chunk_keys.any_filters.Goals as goal
 use Rattle.byte_pass.proofs.chunk_keys.any_filters.Invariants.{filters}

@@ -1,12 +1,10 @@
-use borrow.Author.Rules.{rules}
 use mathlib.Core.Bool.{Bool, not}
 use mathlib.Core.List.{List}
 use mathlib.Core.Path.{◌≡◌}
 use Prim.Native.Nat.{ℕ, ◌+◌, ◌-◌, ◌%◌, ◌≤◌}
-use native.Mathlib.Omega.{arith}
 use lib.Dec.{eqb}
 use lib.ListN.{get_or}
-use Rattle.base.specs.First.{found, found-start, found_more}
+use Rattle.base.specs.First.{found}
 use Rattle.byte_pass.proofs.chunk_keys.any_filters.Given as goal
 
 abbrev pub filters : List ℕ → (at c : ℕ) → Bool

@@ -1,4 +1,3 @@
-use borrow.Author.Rules.{rules}
 use borrow.Author.Tests.{eqb-true, not-false}
 use mathlib.Core.Bool.{false, not}
 use mathlib.Core.List.{List}

@@ -1,9 +1,7 @@
-use borrow.Author.Rules.{rules}
 use mathlib.Core.Logic.{◌⊎◌}
 use mathlib.Core.Path.{◌≡◌, sym, ap, ◌∙◌}
 use Prim.Native.Nat.{ℕ, ◌+◌, ◌*◌, ◌/◌, ◌%◌, ◌≤◌, ◌<◌}
 use native.Mathlib.Omega.{arith}
-use lib.ListN.{get_or}
 use Rattle.pass_edges.specs.PassEdgesLaws.{edge_count_small}
 use Rattle.byte_pass.specs.ChunkKeysLaws.{asked, outer_along, inner_along}
 use Rattle.byte_pass.proofs.chunk_keys.chunk_filters.Goals as goal

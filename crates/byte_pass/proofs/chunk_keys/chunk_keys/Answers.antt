@@ -1,9 +1,7 @@
-use borrow.Author.Rules.{rules}
 use mathlib.Core.Logic.{◌⊎◌}
-use mathlib.Core.Path.{◌≡◌, sym, ap, ◌∙◌}
-use Prim.Native.Nat.{ℕ, ◌+◌, ◌*◌, ◌/◌, ◌≤◌, ◌<◌}
+use mathlib.Core.Path.{◌≡◌}
+use Prim.Native.Nat.{◌+◌, ◌*◌, ◌/◌, ◌≤◌, ◌<◌}
 use native.Mathlib.Omega.{arith}
-use Rattle.pass_edges.specs.PassEdges.{cell_len}
 use Rattle.pass_edges.specs.PassEdgesLaws.{edge_count_small}
 use Rattle.byte_pass.specs.ChunkKeysLaws.{asked, outer_keys, inner_keys}
 use Rattle.byte_pass.proofs.chunk_keys.chunk_keys.Goals as goal

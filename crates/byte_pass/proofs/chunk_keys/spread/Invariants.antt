@@ -1,12 +1,7 @@
-use borrow.Author.Rules.{rules}
-use mathlib.Core.Logic.{◌⊎◌, ⊎_elim}
 use mathlib.Core.Path.{◌≡◌}
-use Prim.Native.Nat.{ℕ, ◌+◌, ◌-◌, ◌/◌, ◌≤◌, ◌<◌}
-use native.Mathlib.Omega.{arith}
-use native.Mathlib.Nat.{zero-add}
+use Prim.Native.Nat.{◌+◌, ◌-◌, ◌/◌, ◌≤◌}
 use lib.ListN.{get_or}
-use Rattle.base.specs.Filled.{filled, filled_none, filled_more}
-use Rattle.byte_pass.specs.ChunkKeys.{spread}
+use Rattle.base.specs.Filled.{filled}
 use Rattle.byte_pass.proofs.chunk_keys.spread.Given as goal
 
 abbrev pub invariant-loop-k : goal.invariant-loop-k

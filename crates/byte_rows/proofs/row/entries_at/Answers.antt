@@ -1,10 +1,8 @@
-use borrow.Author.Rules.{rules}
 use mathlib.Core.Path.{◌≡◌}
 use mathlib.Core.Bool.{true}
-use Prim.Native.Nat.{◌+◌, ◌-◌, ◌≤◌}
+use Prim.Native.Nat.{◌+◌, ◌-◌}
 use native.Mathlib.Omega.{arith}
 use lib.ListN.{get_or, replicate}
-use Rattle.window.specs.Stencil.{scatter}
 use Rattle.window.specs.StencilLaws.{scatter_none, scatter_more}
 use Rattle.byte_rows.proofs.row.entries_at.Goals as goal
 

@@ -1,9 +1,8 @@
-use borrow.Author.Rules.{rules}
 use mathlib.Core.Path.{◌≡◌}
-use Prim.Native.Nat.{◌-◌, ◌≤◌}
+use Prim.Native.Nat.{◌-◌}
 use native.Mathlib.Omega.{arith}
 use lib.ListN.{get_or}
-use Rattle.lane_runs.specs.Spread.{place_of, Spread}
+use Rattle.lane_runs.specs.Spread.{place_of}
 use Rattle.lane_runs.specs.SpreadLaws.{spread_no_taps}
 use Rattle.byte_rows.specs.RowsLaws.{RowFits, row_fits, row_loaded}
 use Rattle.byte_rows.proofs.rows.load_rows.Goals as goal

@@ -1,11 +1,7 @@
-use borrow.Author.Rules.{rules}
-use mathlib.Core.Path.{◌≡◌, refl, ◌∙◌}
+use mathlib.Core.Path.{◌≡◌}
 use Prim.Native.Nat.{◌+◌, ◌-◌, ◌*◌, ◌≤◌}
-use native.Mathlib.Omega.{arith}
 use lib.ListN.{length, get_or}
 use Rattle.lane_runs.specs.Spread.{Spread}
-use Rattle.lane_runs.specs.SpreadLaws.{spread_no_taps}
-use Rattle.byte_rows.specs.RowsLaws.{RowFits, row_fits, row_stored}
 use Rattle.byte_rows.proofs.rows.store_rows.Given as goal
 
 abbrev pub invariant-loop-j : goal.invariant-loop-j

@@ -1,9 +1,5 @@
-use borrow.Author.Rules.{rules}
-use mathlib.Core.Path.{◌≡◌}
 use Prim.Native.Nat.{◌-◌, ◌≤◌}
-use native.Mathlib.Omega.{arith}
 use Rattle.byte_rows.specs.Turn.{TurnedTo}
-use Rattle.byte_rows.specs.TurnLaws.{shuffled_none, shuffled_more}
 use Rattle.byte_rows.proofs.turn.shuffle.Given as goal
 
 abbrev pub invariant-loop-i : goal.invariant-loop-i

@@ -1,4 +1,3 @@
-use borrow.Author.Rules.{rules}
 use mathlib.Core.Path.{refl}
 use Rattle.cells.specs.Cell.{cell_of}
 use Rattle.cells.proofs.LfCell.unpack.Goals as goal

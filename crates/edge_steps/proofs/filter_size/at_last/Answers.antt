@@ -1,4 +1,3 @@
-use borrow.Author.Rules.{rules}
 use Rattle.edge_steps.proofs.filter_size.at_last.Goals as goal
 
 pub returns-in-Vertical : goal.returns-in-Vertical

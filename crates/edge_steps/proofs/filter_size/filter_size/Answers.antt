@@ -1,4 +1,3 @@
-use borrow.Author.Rules.{rules}
 use Rattle.edge_steps.specs.FilterSize.{filter_size}
 use Rattle.edge_steps.proofs.filter_size.filter_size.Goals as goal
 

@@ -1,4 +1,3 @@
-use borrow.Author.Rules.{rules}
 use Rattle.edge_steps.specs.SuperblockFilter.{is_tx_edge}
 use Rattle.edge_steps.proofs.superblock_filter.is_tx_edge_unchecked.Goals as goal
 

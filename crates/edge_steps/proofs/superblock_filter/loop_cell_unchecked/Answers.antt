@@ -1,4 +1,3 @@
-use borrow.Author.Rules.{rules}
 use Rattle.edge_steps.specs.SuperblockFilter.{loop_cell}
 use Rattle.edge_steps.proofs.superblock_filter.loop_cell_unchecked.Goals as goal
 

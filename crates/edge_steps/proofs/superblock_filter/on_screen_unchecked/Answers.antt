@@ -1,4 +1,3 @@
-use borrow.Author.Rules.{rules}
 use Rattle.edge_steps.specs.SuperblockFilter.{on_screen}
 use Rattle.edge_steps.proofs.superblock_filter.on_screen_unchecked.Goals as goal
 

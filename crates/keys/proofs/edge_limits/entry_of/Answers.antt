@@ -1,7 +1,6 @@
 use mathlib.Core.Path.{refl}
 use Rattle.keys.specs.Keys.{key_of}
 use Rattle.keys.specs.PlainKeys.{plain}
-use borrow.Author.Rules.{rules}
 use Rattle.keys.proofs.edge_limits.entry_of.Goals as goal
 
 pub returns : goal.returns

@@ -1,5 +1,4 @@
 use Rattle.keys.specs.PlainKeys.{limits_of}
-use borrow.Author.Rules.{rules}
 use Rattle.keys.proofs.edge_limits.limits_of.Goals as goal
 
 pub returns : goal.returns

@@ -1,9 +1,7 @@
-use borrow.Author.Rules.{rules}
 use mathlib.Core.Path.{◌≡◌}
-use Prim.Native.Nat.{◌-◌, ◌*◌, ◌≤◌}
+use Prim.Native.Nat.{◌-◌}
 use native.Mathlib.Omega.{arith}
-use Rattle.base.specs.Filled.{filled, filled_none}
-use Rattle.keys.specs.PlainKeys.{word_in}
+use Rattle.base.specs.Filled.{filled_none}
 use Rattle.keys.specs.PlainKeysLaws.{more_words, some_cells}
 use Rattle.keys.proofs.fetch.fetch.Goals as goal
 

@@ -1,11 +1,8 @@
-use borrow.Author.Rules.{rules}
 use mathlib.Core.Path.{◌≡◌}
 use Prim.Native.Nat.{◌-◌, ◌*◌, ◌≤◌}
-use native.Mathlib.Omega.{arith}
-use Rattle.base.specs.Filled.{filled, filled_none}
+use Rattle.base.specs.Filled.{filled}
 use Rattle.word_bytes.specs.WordBytes.{words_of}
 use Rattle.keys.specs.PlainKeys.{word_in}
-use Rattle.keys.specs.PlainKeysLaws.{more_words, some_cells}
 use Rattle.keys.proofs.fetch.fetch_bytes.Given as goal
 
 abbrev pub invariant-loop-e : goal.invariant-loop-e

@@ -1,8 +1,7 @@
-use borrow.Author.Rules.{rules}
 use mathlib.Core.Path.{◌≡◌}
-use Prim.Native.Nat.{◌-◌, ◌*◌, ◌≤◌}
+use Prim.Native.Nat.{◌-◌, ◌*◌}
 use native.Mathlib.Omega.{arith}
-use Rattle.base.specs.Filled.{filled, filled_none, filled_more}
+use Rattle.base.specs.Filled.{filled_none, filled_more}
 use Rattle.word_bytes.specs.WordBytes.{words_of}
 use Rattle.keys.specs.PlainKeys.{word_from}
 use Rattle.keys.specs.PlainKeysLaws.{word_of_bytes}

@@ -1,11 +1,8 @@
-use borrow.Author.Rules.{rules}
 use mathlib.Core.Path.{◌≡◌}
 use Prim.Native.Nat.{◌-◌, ◌*◌, ◌≤◌}
-use native.Mathlib.Omega.{arith}
-use Rattle.base.specs.Filled.{filled, filled_none, filled_more}
+use Rattle.base.specs.Filled.{filled}
 use Rattle.word_bytes.specs.WordBytes.{words_of}
 use Rattle.keys.specs.PlainKeys.{word_from}
-use Rattle.keys.specs.PlainKeysLaws.{word_of_bytes}
 use Rattle.keys.proofs.fetch.fetch_pair_bytes.Given as goal
 
 abbrev pub invariant-loop-c : goal.invariant-loop-c

@@ -1,4 +1,3 @@
-use borrow.Author.Rules.{rules}
 use Rattle.keys.proofs.fetch.place_from.Goals as goal
 
 pub returns : goal.returns

@@ -1,4 +1,3 @@
-use borrow.Author.Rules.{rules}
 use Rattle.keys.proofs.levelless.cell_place.Goals as goal
 
 pub returns-then-paired : goal.returns-then-paired

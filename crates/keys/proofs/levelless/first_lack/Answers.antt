@@ -1,9 +1,8 @@
-use borrow.Author.Rules.{rules}
 use mathlib.Core.Path.{◌≡◌, sym, ◌∙◌}
-use Prim.Native.Nat.{◌-◌, ◌*◌, ◌≤◌}
+use Prim.Native.Nat.{◌-◌, ◌*◌}
 use native.Mathlib.Nat.{sub_self, sub-zero}
 use native.Mathlib.Omega.{arith}
-use Rattle.base.specs.First.{first_from, first, first_here, first_next, first_end}
+use Rattle.base.specs.First.{first_here, first_next, first_end}
 use Rattle.keys.specs.PlainKeys.{lack_at}
 use Rattle.keys.proofs.levelless.first_lack.Goals as goal
 

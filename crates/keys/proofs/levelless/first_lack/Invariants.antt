@@ -1,9 +1,6 @@
-use borrow.Author.Rules.{rules}
-use mathlib.Core.Path.{◌≡◌, sym, ◌∙◌}
-use Prim.Native.Nat.{◌-◌, ◌*◌, ◌≤◌}
-use native.Mathlib.Nat.{sub_self, sub-zero}
-use native.Mathlib.Omega.{arith}
-use Rattle.base.specs.First.{first_from, first, first_here, first_next, first_end}
+use mathlib.Core.Path.{◌≡◌}
+use Prim.Native.Nat.{◌-◌, ◌≤◌}
+use Rattle.base.specs.First.{first_from, first}
 use Rattle.keys.specs.PlainKeys.{lack_at}
 use Rattle.keys.proofs.levelless.first_lack.Given as goal
 

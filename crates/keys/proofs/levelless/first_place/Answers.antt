@@ -1,4 +1,3 @@
-use borrow.Author.Rules.{rules}
 use Rattle.keys.proofs.levelless.first_place.Goals as goal
 
 pub returns : goal.returns

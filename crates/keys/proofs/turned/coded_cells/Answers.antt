@@ -1,4 +1,3 @@
-use borrow.Author.Rules.{rules}
 use Rattle.keys.proofs.turned.coded_cells.Goals as goal
 
 pub returns-then-subx-cols : goal.returns-then-subx-cols

@@ -1,6 +1,5 @@
 use Rattle.keys.specs.PlainKeys.{turned_of}
 use Rattle.keys.specs.PlainKeysLaws.{turned_is}
-use borrow.Author.Rules.{rules}
 use Rattle.keys.proofs.turned.turned_of.Goals as goal
 
 pub returns-in-Vertical : goal.returns-in-Vertical

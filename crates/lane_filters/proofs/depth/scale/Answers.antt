@@ -1,4 +1,3 @@
-use borrow.Author.Rules.{rules}
 use native.Mathlib.Omega.{arith}
 use Rattle.base.specs.Depth.{depth_scaled}
 use Rattle.lane_filters.proofs.depth.scale.Goals as goal

@@ -1,4 +1,3 @@
-use borrow.Author.Rules.{rules}
 use Rattle.line.specs.Masks.{filter_mask}
 use Rattle.lane_filters.proofs.masks.filter_mask.Goals as goal
 

@@ -1,4 +1,3 @@
-use borrow.Author.Rules.{rules}
 use Rattle.line.specs.Masks.{hev_mask}
 use Rattle.lane_filters.proofs.masks.hev_mask.Goals as goal
 

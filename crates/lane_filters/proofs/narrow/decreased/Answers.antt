@@ -1,4 +1,3 @@
-use borrow.Author.Rules.{rules}
 use Rattle.lane_filters.specs.RaisedFilter.{decreased}
 use Rattle.lane_filters.proofs.narrow.decreased.Goals as goal
 

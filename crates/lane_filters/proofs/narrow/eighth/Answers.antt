@@ -1,4 +1,3 @@
-use borrow.Author.Rules.{rules}
 use native.Mathlib.Omega.{arith}
 use Rattle.lane_filters.specs.RaisedFilter.{raised_eighth}
 use Rattle.lane_filters.proofs.narrow.eighth.Goals as goal

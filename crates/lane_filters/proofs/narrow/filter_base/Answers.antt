@@ -1,5 +1,3 @@
-use borrow.Author.Rules.{rules}
-use mathlib.Core.Path.{refl}
 use native.Mathlib.Omega.{arith}
 use Rattle.lane_filters.specs.RaisedFilter.{raised_base}
 use Rattle.lane_filters.proofs.narrow.filter_base.Goals as goal

@@ -1,4 +1,3 @@
-use borrow.Author.Rules.{rules}
 use native.Mathlib.Omega.{arith}
 use Rattle.lane_filters.specs.RaisedFilter.{raised_filter}
 use Rattle.lane_filters.proofs.narrow.filter_value.Goals as goal

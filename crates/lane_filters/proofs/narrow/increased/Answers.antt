@@ -1,4 +1,3 @@
-use borrow.Author.Rules.{rules}
 use Rattle.lane_filters.specs.RaisedFilter.{increased}
 use Rattle.lane_filters.proofs.narrow.increased.Goals as goal
 

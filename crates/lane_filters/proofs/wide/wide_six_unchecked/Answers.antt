@@ -1,4 +1,3 @@
-use borrow.Author.Rules.{rules}
 use Rattle.wide_filter.specs.WideSums.{wide_six}
 use Rattle.lane_filters.specs.LaneSamples.{samples_of}
 use Rattle.lane_filters.proofs.wide.wide_six_unchecked.Goals as goal

@@ -1,10 +1,5 @@
-use borrow.Author.Rules.{rules}
-use mathlib.Core.Path.{◌≡◌}
-use Prim.Native.Nat.{◌+◌, ◌-◌, ◌*◌, ◌≤◌, ◌<◌}
-use native.Mathlib.Omega.{arith}
-use lib.ListN.{length}
+use Prim.Native.Nat.{◌-◌, ◌≤◌}
 use Rattle.lane_runs.specs.Spread.{Loaded}
-use Rattle.lane_runs.specs.SpreadLaws.{loaded_no_lanes, loaded_lane}
 use Rattle.lane_runs.proofs.across.gather_lanes.Given as goal
 
 abbrev pub invariant-loop-l : goal.invariant-loop-l

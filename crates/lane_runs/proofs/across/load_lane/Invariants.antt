@@ -1,11 +1,8 @@
-use borrow.Author.Rules.{rules}
 use mathlib.Core.Path.{◌≡◌}
 use mathlib.Core.Bool.{true}
-use Prim.Native.Nat.{◌+◌, ◌-◌, ◌*◌, ◌≤◌, ◌<◌}
-use native.Mathlib.Omega.{arith}
+use Prim.Native.Nat.{◌+◌, ◌-◌, ◌*◌, ◌≤◌}
 use lib.ListN.{get_or}
 use Rattle.window.specs.Stencil.{scatter}
-use Rattle.window.specs.StencilLaws.{scatter_none, scatter_more}
 use Rattle.lane_runs.proofs.across.load_lane.Given as goal
 
 abbrev pub invariant-loop-k : goal.invariant-loop-k

@@ -1,9 +1,7 @@
-use borrow.Author.Rules.{rules}
 use mathlib.Core.Path.{◌≡◌}
-use Prim.Native.Nat.{◌+◌, ◌-◌, ◌*◌, ◌≤◌, ◌<◌}
+use Prim.Native.Nat.{◌+◌, ◌-◌, ◌*◌, ◌<◌}
 use native.Mathlib.Omega.{arith}
 use lib.ListN.{length}
-use Rattle.lane_runs.specs.Spread.{Loaded}
 use Rattle.lane_runs.specs.SpreadLaws.{loaded_no_taps, loaded_tap}
 use Rattle.lane_runs.proofs.down.gather_rows.Goals as goal
 use Rattle.lane_runs.proofs.down.gather_rows.Tie as tie

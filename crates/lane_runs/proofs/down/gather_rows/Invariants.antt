@@ -1,10 +1,5 @@
-use borrow.Author.Rules.{rules}
-use mathlib.Core.Path.{◌≡◌}
-use Prim.Native.Nat.{◌+◌, ◌-◌, ◌*◌, ◌≤◌, ◌<◌}
-use native.Mathlib.Omega.{arith}
-use lib.ListN.{length}
+use Prim.Native.Nat.{◌-◌, ◌≤◌}
 use Rattle.lane_runs.specs.Spread.{Loaded}
-use Rattle.lane_runs.specs.SpreadLaws.{loaded_no_taps, loaded_tap}
 use Rattle.lane_runs.proofs.down.gather_rows.Given as goal
 
 abbrev pub invariant-loop-j : goal.invariant-loop-j

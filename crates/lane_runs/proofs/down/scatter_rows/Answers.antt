@@ -1,9 +1,7 @@
-use borrow.Author.Rules.{rules}
 use mathlib.Core.Path.{◌≡◌, refl, ◌∙◌}
-use Prim.Native.Nat.{◌+◌, ◌-◌, ◌*◌, ◌≤◌, ◌<◌}
+use Prim.Native.Nat.{◌+◌, ◌-◌, ◌*◌, ◌<◌}
 use native.Mathlib.Omega.{arith}
 use lib.ListN.{length, get_or}
-use Rattle.lane_runs.specs.Spread.{Spread}
 use Rattle.lane_runs.specs.SpreadLaws.{spread_no_taps, spread-tap}
 use Rattle.lane_runs.proofs.down.scatter_rows.Goals as goal
 use Rattle.lane_runs.proofs.down.scatter_rows.Tie as tie

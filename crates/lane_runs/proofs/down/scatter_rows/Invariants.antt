@@ -1,10 +1,7 @@
-use borrow.Author.Rules.{rules}
-use mathlib.Core.Path.{◌≡◌, refl, ◌∙◌}
-use Prim.Native.Nat.{◌+◌, ◌-◌, ◌*◌, ◌≤◌, ◌<◌}
-use native.Mathlib.Omega.{arith}
+use mathlib.Core.Path.{◌≡◌}
+use Prim.Native.Nat.{◌+◌, ◌-◌, ◌*◌, ◌≤◌}
 use lib.ListN.{length, get_or}
 use Rattle.lane_runs.specs.Spread.{Spread}
-use Rattle.lane_runs.specs.SpreadLaws.{spread_no_taps, spread-tap}
 use Rattle.lane_runs.proofs.down.scatter_rows.Given as goal
 
 abbrev pub invariant-loop-j : goal.invariant-loop-j

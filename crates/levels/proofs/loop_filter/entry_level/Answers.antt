@@ -1,4 +1,3 @@
-use borrow.Author.Rules.{rules}
 use Rattle.levels.specs.Levels.{entry_lvl}
 use Rattle.levels.proofs.loop_filter.entry_level.Goals as goal
 

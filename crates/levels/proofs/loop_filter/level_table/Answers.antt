@@ -1,4 +1,3 @@
-use borrow.Author.Rules.{rules}
 use Rattle.levels.specs.Levels.{level_table}
 use Rattle.levels.proofs.loop_filter.level_table.Goals as goal
 

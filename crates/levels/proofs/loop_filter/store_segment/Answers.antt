@@ -1,9 +1,9 @@
 use borrow.Author.Rules.{rules}
 use mathlib.Core.Path.{◌≡◌, refl}
 use native.Mathlib.Omega.{arith}
-use Prim.Native.Nat.{ℕ, ◌+◌, ◌-◌, ◌*◌, ◌/◌, ◌%◌, ◌≤◌, ◌<◌}
+use Prim.Native.Nat.{ℕ, ◌+◌, ◌-◌, ◌*◌, ◌/◌, ◌%◌, ◌<◌}
 use lib.ListN.{length, length-set}
-use Rattle.base.specs.Filled.{filled, filled_none, filled_more}
+use Rattle.base.specs.Filled.{filled_none, filled_more}
 use Rattle.levels.specs.Levels.{entry_lvl, segment_lvl}
 use Rattle.frame_header.specs.declared.LoopFilterParams.{LoopFilterParams}
 use Rattle.frame_header.specs.declared.Deltas.{Deltas}

@@ -1,12 +1,8 @@
-use borrow.Author.Rules.{rules}
-use mathlib.Core.Path.{◌≡◌, refl}
-use native.Mathlib.Omega.{arith}
-use Prim.Native.Nat.{ℕ, ◌+◌, ◌-◌, ◌*◌, ◌/◌, ◌%◌, ◌≤◌, ◌<◌}
-use lib.ListN.{length, length-set}
-use Rattle.base.specs.Filled.{filled, filled_none, filled_more}
-use Rattle.levels.specs.Levels.{entry_lvl, segment_lvl}
-use Rattle.frame_header.specs.declared.LoopFilterParams.{LoopFilterParams}
-use Rattle.frame_header.specs.declared.Deltas.{Deltas}
+use mathlib.Core.Path.{◌≡◌}
+use Prim.Native.Nat.{◌-◌, ◌*◌, ◌≤◌}
+use lib.ListN.{length}
+use Rattle.base.specs.Filled.{filled}
+use Rattle.levels.specs.Levels.{segment_lvl}
 use Rattle.levels.proofs.loop_filter.store_segment.Given as goal
 
 abbrev pub invariant-loop-k : goal.invariant-loop-k

@@ -1,10 +1,8 @@
 use borrow.Author.Rules.{rules}
 use mathlib.Core.Path.{◌≡◌, refl, ◌∙◌}
 use native.Mathlib.Omega.{arith}
-use Prim.Native.Nat.{◌*◌, ◌-◌, ◌≤◌}
-use lib.ListN.{length}
-use Rattle.base.specs.Filled.{filled, filled_none}
-use Rattle.levels.specs.Levels.{place_lvl}
+use Prim.Native.Nat.{◌-◌}
+use Rattle.base.specs.Filled.{filled_none}
 use Rattle.levels.proofs.LevelLaws.{segment_more}
 use Rattle.levels.proofs.loop_filter.store_table.Goals as goal
 

@@ -1,11 +1,8 @@
-use borrow.Author.Rules.{rules}
-use mathlib.Core.Path.{◌≡◌, refl, ◌∙◌}
-use native.Mathlib.Omega.{arith}
+use mathlib.Core.Path.{◌≡◌}
 use Prim.Native.Nat.{◌*◌, ◌-◌, ◌≤◌}
 use lib.ListN.{length}
-use Rattle.base.specs.Filled.{filled, filled_none}
+use Rattle.base.specs.Filled.{filled}
 use Rattle.levels.specs.Levels.{place_lvl}
-use Rattle.levels.proofs.LevelLaws.{segment_more}
 use Rattle.levels.proofs.loop_filter.store_table.Given as goal
 
 abbrev pub invariant-loop-segment : goal.invariant-loop-segment

@@ -1,5 +1,4 @@
 use Rattle.line.specs.Masks.{filter_mask}
-use borrow.Author.Rules.{rules}
 use Rattle.line.proofs.masks.filter_mask.Goals as goal
 
 pub returns : goal.returns

@@ -1,4 +1,3 @@
-use borrow.Author.Rules.{rules}
 use Rattle.line.proofs.masks.flat_at.Goals as goal
 
 pub returns : goal.returns

@@ -1,5 +1,4 @@
 use Rattle.line.specs.Masks.{flat_at, flat_mask}
-use borrow.Author.Rules.{rules}
 use Rattle.line.proofs.masks.flat_mask.Goals as goal
 
 pub returns : goal.returns

@@ -1,5 +1,4 @@
 use Rattle.line.specs.Masks.{flat_at, flat_mask2}
-use borrow.Author.Rules.{rules}
 use Rattle.line.proofs.masks.flat_mask2.Goals as goal
 
 pub returns : goal.returns

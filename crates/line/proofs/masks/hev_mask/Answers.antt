@@ -1,5 +1,4 @@
 use Rattle.line.specs.Masks.{hev_mask}
-use borrow.Author.Rules.{rules}
 use Rattle.line.proofs.masks.hev_mask.Goals as goal
 
 pub returns : goal.returns

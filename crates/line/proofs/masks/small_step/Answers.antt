@@ -1,4 +1,3 @@
-use borrow.Author.Rules.{rules}
 use Rattle.line.proofs.masks.small_step.Goals as goal
 
 pub returns : goal.returns

@@ -1,10 +1,9 @@
-use borrow.Author.Rules.{rules}
 use mathlib.Core.Path.{◌≡◌}
-use Prim.Native.Nat.{◌-◌, ◌≤◌}
+use Prim.Native.Nat.{◌-◌}
 use native.Mathlib.Omega.{arith}
-use Rattle.decided.specs.CellWalk.{edge_cells, edge_none, edge_next}
+use Rattle.decided.specs.CellWalk.{edge_none, edge_next}
 use Rattle.pass_edges.specs.PassEdgesLaws.{edge_count_small}
-use Rattle.pass.specs.WalkLaws.{Walk, walk_none, walk_then, walk_length, walk_able}
+use Rattle.pass.specs.WalkLaws.{walk_none, walk_then, walk_length, walk_able}
 use Rattle.pass.proofs.edge.filter_edge.Goals as goal
 
 pub loop-c-init : goal.loop-c-init

@@ -1,10 +1,6 @@
-use borrow.Author.Rules.{rules}
-use mathlib.Core.Path.{◌≡◌}
 use Prim.Native.Nat.{◌-◌, ◌≤◌}
-use native.Mathlib.Omega.{arith}
-use Rattle.decided.specs.CellWalk.{edge_cells, edge_none, edge_next}
-use Rattle.pass_edges.specs.PassEdgesLaws.{edge_count_small}
-use Rattle.pass.specs.WalkLaws.{Walk, walk_none, walk_then, walk_length, walk_able}
+use Rattle.decided.specs.CellWalk.{edge_cells}
+use Rattle.pass.specs.WalkLaws.{Walk}
 use Rattle.pass.proofs.edge.filter_edge.Given as goal
 
 abbrev pub invariant-loop-c : goal.invariant-loop-c

@@ -1,13 +1,12 @@
-use borrow.Author.Rules.{rules}
 use mathlib.Core.Path.{◌≡◌, ap, ◌∙◌}
-use Prim.Native.Nat.{◌-◌, ◌≤◌}
+use Prim.Native.Nat.{◌-◌}
 use native.Mathlib.Omega.{arith}
 use lib.ListN.{length}
-use Rattle.decided.specs.CellWalk.{pass_cells, pass_none, pass_next}
+use Rattle.decided.specs.CellWalk.{pass_none, pass_next}
 use Rattle.decided.specs.KeyRuns.{key_runs}
 use Rattle.pass_edges.specs.PassEdges.{edge_count}
 use Rattle.pass.specs.WorkLaws.{runs-length}
-use Rattle.pass.specs.WalkLaws.{Walk, walk_none, walk_then, walk_able, walk_whole}
+use Rattle.pass.specs.WalkLaws.{walk_none, walk_then, walk_able, walk_whole}
 use Rattle.pass.proofs.edge.filter_keys.Goals as goal
 
 pub loop-edge-init : goal.loop-edge-init

@@ -1,4 +1,3 @@
-use borrow.Author.Rules.{rules}
 use native.Mathlib.Omega.{arith}
 use Rattle.window.specs.RangeLaws.{range_wider}
 use Rattle.pass.specs.WorkLaws.{filtered_on, filtered_off, depth_12}

@@ -1,7 +1,6 @@
-use borrow.Author.Rules.{rules}
 use mathlib.Core.Bool.{Bool}
 use mathlib.Core.Path.{◌≡◌}
-use Prim.Native.Nat.{ℕ, ◌-◌, ◌≤◌}
+use Prim.Native.Nat.{ℕ, ◌-◌}
 use native.Mathlib.Omega.{arith}
 use Rattle.base.specs.First.{found, found-start, found_more}
 use Rattle.row.specs.Row.{bad_block_at}

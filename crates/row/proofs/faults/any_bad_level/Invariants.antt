@@ -1,8 +1,6 @@
-use borrow.Author.Rules.{rules}
 use mathlib.Core.Path.{◌≡◌}
 use Prim.Native.Nat.{◌-◌, ◌≤◌}
-use native.Mathlib.Omega.{arith}
-use Rattle.base.specs.First.{found, found-start, found_more}
+use Rattle.base.specs.First.{found}
 use Rattle.row.specs.Row.{bad_level}
 use Rattle.row.proofs.faults.any_bad_level.Given as goal
 

@@ -1,10 +1,9 @@
-use borrow.Author.Rules.{rules}
 use mathlib.Core.Bool.{Bool}
 use mathlib.Core.Path.{◌≡◌, sym, ◌∙◌}
-use Prim.Native.Nat.{ℕ, ◌-◌, ◌≤◌}
+use Prim.Native.Nat.{ℕ, ◌-◌}
 use native.Mathlib.Nat.{sub_self, sub-zero}
 use native.Mathlib.Omega.{arith}
-use Rattle.base.specs.First.{first_from, first, first_here, first_next, first_end}
+use Rattle.base.specs.First.{first_here, first_next, first_end}
 use Rattle.row.specs.Row.{bad_block_at}
 use Rattle.row.proofs.faults.first_bad_block.Goals as goal
 use Rattle.row.proofs.faults.first_bad_block.Tie as tie

@@ -1,10 +1,6 @@
-use borrow.Author.Rules.{rules}
-use mathlib.Core.Bool.{Bool}
-use mathlib.Core.Path.{◌≡◌, sym, ◌∙◌}
-use Prim.Native.Nat.{ℕ, ◌-◌, ◌≤◌}
-use native.Mathlib.Nat.{sub_self, sub-zero}
-use native.Mathlib.Omega.{arith}
-use Rattle.base.specs.First.{first_from, first, first_here, first_next, first_end}
+use mathlib.Core.Path.{◌≡◌}
+use Prim.Native.Nat.{◌-◌, ◌≤◌}
+use Rattle.base.specs.First.{first_from, first}
 use Rattle.row.specs.Row.{bad_block_at}
 use Rattle.row.proofs.faults.first_bad_block.Given as goal
 

@@ -1,10 +1,9 @@
-use borrow.Author.Rules.{rules}
 use mathlib.Core.Path.{◌≡◌, refl, sym, ◌∙◌}
-use Prim.Native.Nat.{◌-◌, ◌≤◌}
+use Prim.Native.Nat.{◌-◌}
 use native.Mathlib.Omega.{arith}
 use lib.ListN.{get_or}
 use borrow.Author.Tests.{lt-ltb, le-ltb}
-use Rattle.base.specs.First.{first_from, first, first_here, first_next, first_end}
+use Rattle.base.specs.First.{first_here, first_next, first_end}
 use Rattle.row.specs.Row.{bad_level}
 use Rattle.row.proofs.faults.first_bad_level.Goals as goal
 

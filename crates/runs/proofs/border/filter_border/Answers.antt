@@ -1,10 +1,7 @@
-use borrow.Author.Rules.{rules}
 use mathlib.Core.Path.{◌≡◌, refl, ◌∙◌}
-use Prim.Native.Nat.{◌-◌, ◌≤◌}
+use Prim.Native.Nat.{◌-◌}
 use native.Mathlib.Omega.{arith}
-use lib.ListN.{length}
 use Rattle.line.specs.SampleFiltering.{sample_filtering}
-use Rattle.window.specs.Stencil.{in_turn}
 use Rattle.window.specs.StencilLaws.{in_turn_none}
 use Rattle.window.specs.Window.{run_of}
 use Rattle.tap_places.specs.TurnLaws.{in_turn_next}

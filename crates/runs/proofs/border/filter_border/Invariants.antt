@@ -1,13 +1,9 @@
-use borrow.Author.Rules.{rules}
-use mathlib.Core.Path.{◌≡◌, refl, ◌∙◌}
+use mathlib.Core.Path.{◌≡◌}
 use Prim.Native.Nat.{◌-◌, ◌≤◌}
-use native.Mathlib.Omega.{arith}
 use lib.ListN.{length}
 use Rattle.line.specs.SampleFiltering.{sample_filtering}
 use Rattle.window.specs.Stencil.{in_turn}
-use Rattle.window.specs.StencilLaws.{in_turn_none}
 use Rattle.window.specs.Window.{run_of}
-use Rattle.tap_places.specs.TurnLaws.{in_turn_next}
 use Rattle.runs.proofs.border.filter_border.Given as goal
 
 abbrev pub invariant-loop-k : goal.invariant-loop-k

@@ -1,4 +1,3 @@
-use borrow.Author.Rules.{rules}
 use mathlib.Core.Bool.{true}
 use Rattle.line.specs.SampleFiltering.{sample_filtering}
 use Rattle.window.specs.Window.{stencil}

@@ -1,9 +1,7 @@
-use borrow.Author.Rules.{rules}
 use mathlib.Core.Path.{◌≡◌, refl, ◌∙◌}
-use Prim.Native.Nat.{◌-◌, ◌≤◌}
+use Prim.Native.Nat.{◌-◌}
 use native.Mathlib.Omega.{arith}
-use lib.ListN.{length, get_or}
-use Rattle.window.specs.Stencil.{scatter}
+use lib.ListN.{get_or}
 use Rattle.window.specs.StencilLaws.{scatter_none}
 use Rattle.window.specs.Window.{tap_stored, tap_written}
 use Rattle.tap_places.specs.TurnLaws.{scatter_next}

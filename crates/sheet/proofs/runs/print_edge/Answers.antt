@@ -1,10 +1,9 @@
-use borrow.Author.Rules.{rules}
 use mathlib.Core.Path.{◌≡◌}
-use Prim.Native.Nat.{◌-◌, ◌≤◌}
+use Prim.Native.Nat.{◌-◌}
 use native.Mathlib.Omega.{arith}
-use Rattle.decided.specs.CellWalk.{edge_cells, edge_none, edge_next}
+use Rattle.decided.specs.CellWalk.{edge_none, edge_next}
 use Rattle.pass_edges.specs.PassEdgesLaws.{edge_count_small}
-use Rattle.sheet.specs.PrintLaws.{Fed, fed_none, fed_then, fed_length, edge_near}
+use Rattle.sheet.specs.PrintLaws.{fed_none, fed_then, fed_length, edge_near}
 use Rattle.sheet.proofs.runs.print_edge.Goals as goal
 
 pub loop-c-init : goal.loop-c-init

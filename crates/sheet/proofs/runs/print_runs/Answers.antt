@@ -1,10 +1,10 @@
 use borrow.Author.Rules.{rules}
 use mathlib.Core.Path.{◌≡◌, ◌∙◌}
-use Prim.Native.Nat.{◌-◌, ◌≤◌}
+use Prim.Native.Nat.{◌-◌}
 use native.Mathlib.Omega.{arith}
-use Rattle.decided.specs.CellWalk.{pass_cells, pass_none, pass_next}
+use Rattle.decided.specs.CellWalk.{pass_none, pass_next}
 use Rattle.pass_edges.specs.PassEdges.{edge_count}
-use Rattle.sheet.specs.PrintLaws.{Fed, fed_none, fed_then, fed_length, pass_near, fed_all}
+use Rattle.sheet.specs.PrintLaws.{fed_none, fed_then, fed_length, pass_near, fed_all}
 use Rattle.sheet.proofs.runs.print_runs.Goals as goal
 
 pub loop-edge-init : goal.loop-edge-init

@@ -1,4 +1,3 @@
-use borrow.Author.Rules.{rules}
 use native.Mathlib.Omega.{arith}
 use Rattle.tap_places.proofs.inside.first_tap_unchecked.Goals as goal
 

@@ -1,4 +1,3 @@
-use borrow.Author.Rules.{rules}
 use borrow.Author.Tests.{le-leb}
 use Prim.Native.Nat.{◌+◌}
 use lib.Dec.{leb}

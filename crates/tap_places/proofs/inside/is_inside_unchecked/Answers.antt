@@ -1,4 +1,3 @@
-use borrow.Author.Rules.{rules}
 use Rattle.tap_places.proofs.inside.is_inside_unchecked.Goals as goal
 
 pub returns-in-Vertical : goal.returns-in-Vertical

@@ -1,4 +1,3 @@
-use borrow.Author.Rules.{rules}
 use Rattle.tap_places.proofs.taps.is_stored_unchecked.Goals as goal
 
 pub returns : goal.returns

@@ -1,4 +1,3 @@
-use borrow.Author.Rules.{rules}
 use native.Mathlib.Omega.{arith}
 use Rattle.window.specs.WindowLaws.{place_lent}
 use Rattle.tap_places.proofs.taps.read_place_unchecked.Goals as goal

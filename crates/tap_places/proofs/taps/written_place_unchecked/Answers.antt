@@ -1,4 +1,3 @@
-use borrow.Author.Rules.{rules}
 use native.Mathlib.Omega.{arith}
 use Rattle.window.specs.Window.{tap_x, tap_y}
 use Rattle.window.specs.WindowLaws.{Tap, tap_in, tap_inside, place_lent}
