@@ -1,4 +1,4 @@
-use Rattle.std.proofs.Common.{◌≡◌, ◌≤◌, ◌-◌, ◌/◌, length, Bool, ⊎_elim, refl, sym, ap, subst, ◌∙◌, ℕ, List, [], false, arith}
+use Rattle.std.proofs.Common.{◌≡◌, ◌≤◌, ◌-◌, ◌/◌, length, Bool, ⊎_elim, refl, sym, ap, subst, ◌∙◌, ℕ, List, [], false}
 use Rattle.base.specs.Outcome.{Outcome, accepted, refused}
 use Rattle.base.specs.Depth.{supported}
 use Rattle.decided.specs.declared.EdgeRun.{EdgeRun}

@@ -1,4 +1,4 @@
-use Rattle.std.proofs.Common.{◌≡◌, sym, ap, ◌∙◌, ℕ, ◌*◌, ◌+◌, ◌-◌, ◌/◌, ◌≤◌, arith, length, take, length-take-le}
+use Rattle.std.proofs.Common.{◌≡◌, sym, ap, ◌∙◌, ◌*◌, ◌+◌, ◌-◌, ◌/◌, ◌≤◌, arith, length, take, length-take-le}
 use Rattle.base.specs.Filled.{length-filled, take-filled}
 use Rattle.word_bytes.specs.WordBytes.{bytes_at, words_at}
 use Rattle.sheet_header.specs.SheetHeaderLaws.{header_small}

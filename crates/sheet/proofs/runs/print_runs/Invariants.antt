@@ -1,10 +1,6 @@
-use borrow.Author.Rules.{rules}
-use mathlib.Core.Path.{◌≡◌, ◌∙◌}
 use Prim.Native.Nat.{◌-◌, ◌≤◌}
-use native.Mathlib.Omega.{arith}
-use Rattle.decided.specs.CellWalk.{pass_cells, pass_none, pass_next}
-use Rattle.pass_edges.specs.PassEdges.{edge_count}
-use Rattle.sheet.specs.PrintLaws.{Fed, fed_none, fed_then, fed_length, pass_near, fed_all}
+use Rattle.decided.specs.CellWalk.{pass_cells}
+use Rattle.sheet.specs.PrintLaws.{Fed}
 use Rattle.sheet.proofs.runs.print_runs.Given as goal
 
 abbrev pub invariant-loop-edge : goal.invariant-loop-edge
