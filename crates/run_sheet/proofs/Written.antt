@@ -1,5 +1,5 @@
 -- What `sheet::run_sheet` writes into a buffer of 2,048 bytes.
-use Rattle.std.proofs.Common.{◌≡◌, ◌∙◌, refl, ℕ, ◌<◌, ◌≤◌, List, length, take, lt-ltb, arith}
+use Rattle.std.proofs.Common.{◌≡◌, ◌∙◌, ℕ, ◌<◌, List, length, take, lt-ltb}
 use Rattle.std.proofs.Math.Seq.{take-append_seam}
 use Rattle.sheet.specs.declared.SheetAnswer.TheVariants.{Written}
 use Rattle.sheet.specs.Sheet.{run_sheet}

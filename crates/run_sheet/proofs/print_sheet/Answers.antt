@@ -1,5 +1,4 @@
-use Rattle.std.proofs.Common.{rules, take, IfSome, OnOk, ◌≡◌, ℕ, ◌+◌, ◌-◌, ◌*◌, ◌<◌, ◌≤◌, length, ◌∙◌, sym, arith, length-take-le}
-use Rattle.std.specs.Io.KnownBytes.{Appends}
+use Rattle.std.proofs.Common.{rules, take, ◌≡◌, ◌∙◌, sym, arith, length-take-le}
 use Rattle.sheet.specs.Sheet.{run_sheet}
 use Rattle.sheet.specs.SheetFits.{answer_fits}
 use Rattle.run_sheet.proofs.Written.{written, count_of, front_of}

@@ -8,9 +8,8 @@ use Rattle.sheet.proofs.runs.print_cell.Goals as goal
 
 pub returns-then-key-eq0 : goal.returns-then-key-eq0
 returns-then-key-eq0 c =
-    let start = c in
-    let a = start.args in
-    fed_none a.p _ (kept_none a.s a.pass a.key a.edge a.c c.if-key-eq0.true) start.requires.1
+    let a = c.args in
+    fed_none a.p _ (kept_none a.s a.pass a.key a.edge a.c c.if-key-eq0.true) c.requires.1
 
 pub longer_unchecked-requires : goal.longer_unchecked-requires
 longer_unchecked-requires c =
@@ -18,22 +17,15 @@ longer_unchecked-requires c =
 
 pub returns-then-joins_unchecked : goal.returns-then-joins_unchecked
 returns-then-joins_unchecked c =
-    let test = c in
-    let next = test in
-    let at-if = next in
-    let a = at-if.args in
-    fed_joins a.p (kept_one a.s a.pass a.key a.edge a.c (omega (arith, at-if.if-key-eq0.false))) next.key_run_unchecked-next.ensures.0 _
-    (sym test.joins_unchecked.ensures ∙ c.if-joins_unchecked.true)
+    let a = c.args in
+    fed_joins a.p (kept_one a.s a.pass a.key a.edge a.c (omega (arith, c.if-key-eq0.false))) c.key_run_unchecked-next.ensures.0 _
+    (sym c.joins_unchecked.ensures ∙ c.if-joins_unchecked.true)
     c.longer_unchecked.ensures
 
 pub returns : goal.returns
 returns c =
-    let parts = c in
-    let test = parts in
-    let next = test in
-    let at-if = next in
-    let a = at-if.args in
-    fed_parts a.p (kept_one a.s a.pass a.key a.edge a.c (omega (arith, at-if.if-key-eq0.false))) next.key_run_unchecked-next.ensures.0
-    (sym test.joins_unchecked.ensures ∙ parts.if-joins_unchecked.false)
-    next.key_run_unchecked-next.ensures.1
+    let a = c.args in
+    fed_parts a.p (kept_one a.s a.pass a.key a.edge a.c (omega (arith, c.if-key-eq0.false))) c.key_run_unchecked-next.ensures.0
+    (sym c.joins_unchecked.ensures ∙ c.if-joins_unchecked.false)
+    c.key_run_unchecked-next.ensures.1
     c.print_pending.ensures

@@ -1,5 +1,4 @@
 use mathlib.Core.Path.{◌≡◌}
-use Prim.Native.Nat.{◌-◌}
 use native.Mathlib.Omega.{arith}
 use Rattle.decided.specs.CellWalk.{edge_none, edge_next}
 use Rattle.pass_edges.specs.PassEdgesLaws.{edge_count_small}
@@ -8,31 +7,27 @@ use Rattle.sheet.proofs.runs.print_edge.Goals as goal
 
 pub loop-c-init : goal.loop-c-init
 loop-c-init c =
-    let start = c in
-    let a = start.args in
-    (omega arith, fed_none a.start _ (edge_none a.s a.pass a.outer.now a.inner.now a.edge) start.requires.1)
+    let a = c.args in
+    (omega arith, fed_none a.start _ (edge_none a.s a.pass a.outer.now a.inner.now a.edge) c.requires.1)
 
 pub key_at_unchecked-key-requires : goal.key_at_unchecked-key-requires
 key_at_unchecked-key-requires c =
-    let start = c in
-    (start.requires.2, omega (arith, start.requires.3, edge_count_small start.args.s start.args.pass), c.loop-c-test.true)
+    (c.requires.2, omega (arith, c.requires.3, edge_count_small c.args.s c.args.pass), c.loop-c-test.true)
 
 pub print_cell-p-requires : goal.print_cell-p-requires
 print_cell-p-requires c =
-    let start = c in
-    let a = start.args in
+    let a = c.args in
     let loop = c.loop-c in (
       omega (arith, edge_near a.s a.pass a.outer.now a.inner.now a.edge loop.c loop.invariant.1),
       loop.invariant.1.small,
       c.key_at_unchecked-key.ensures.1,
-      start.requires.3,
+      c.requires.3,
       c.loop-c-test.true,
     )
 
 pub loop-c-preserved : goal.loop-c-preserved
 loop-c-preserved c =
-    let start = c in
-    let a = start.args in
+    let a = c.args in
     let loop = c.loop-c in (
       omega arith,
       rw (← edge_next a.s a.pass a.outer.now a.inner.now a.edge loop.c, ← c.key_at_unchecked-key.ensures.0)

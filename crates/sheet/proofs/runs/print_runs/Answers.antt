@@ -1,6 +1,5 @@
 use borrow.Author.Rules.{rules}
 use mathlib.Core.Path.{◌≡◌, ◌∙◌}
-use Prim.Native.Nat.{◌-◌}
 use native.Mathlib.Omega.{arith}
 use Rattle.decided.specs.CellWalk.{pass_none, pass_next}
 use Rattle.pass_edges.specs.PassEdges.{edge_count}
@@ -14,29 +13,25 @@ loop-edge-init c =
 
 pub print_edge-p-requires : goal.print_edge-p-requires
 print_edge-p-requires c =
-    let count = c in
-    let start = count in
-    let a = start.args in
+    let a = c.args in
     let loop = c.loop-edge in (
       omega (arith, pass_near a.s a.pass a.outer.now a.inner.now loop.edge loop.invariant.1),
       loop.invariant.1.small,
-      start.requires.1,
-      rw count.edge_count-edge-end.ensures.0 at c.loop-edge-test.true,
+      c.requires.1,
+      rw c.edge_count-edge-end.ensures.0 at c.loop-edge-test.true,
     )
 
 pub loop-edge-preserved : goal.loop-edge-preserved
 loop-edge-preserved c =
-    let at-loop = c in
-    let a = at-loop.args in
-    let loop = at-loop.loop-edge in
+    let a = c.args in
+    let loop = c.loop-edge in
     (omega arith, rw (← pass_next a.s a.pass a.outer.now a.inner.now loop.edge) (fed_then loop.invariant.1 c.print_edge-p.ensures))
 
 pub print_pending-requires : goal.print_pending-requires
 print_pending-requires c =
-    let count = c in
-    let a = count.args in
+    let a = c.args in
     let loop = c.loop-edge in
-    (omega (arith, pass_near a.s a.pass a.outer.now a.inner.now loop.edge loop.invariant.1, count.edge_count-edge-end.ensures.1), loop.invariant.1.small)
+    (omega (arith, pass_near a.s a.pass a.outer.now a.inner.now loop.edge loop.invariant.1, c.edge_count-edge-end.ensures.1), loop.invariant.1.small)
 
 pub shape_of-out : goal.shape_of-out
 shape_of-out c = (search rules) ∙ fed_length c.loop-edge.invariant.1
@@ -44,7 +39,6 @@ shape_of-out c = (search rules) ∙ fed_length c.loop-edge.invariant.1
 pub returns : goal.returns
 returns c =
     let loop = c.loop-edge in
-    let count = c in
-    let a = count.args in
-    let all : loop.edge ≡ edge_count a.s a.pass = omega (arith, count.edge_count-edge-end.ensures.0) in
-    fed_all a.s a.pass a.outer.now a.inner.now count.no_run.ensures.1 (rw all at loop.invariant.1) c.print_pending.ensures.0
+    let a = c.args in
+    let all : loop.edge ≡ edge_count a.s a.pass = omega (arith, c.edge_count-edge-end.ensures.0) in
+    fed_all a.s a.pass a.outer.now a.inner.now c.no_run.ensures.1 (rw all at loop.invariant.1) c.print_pending.ensures.0
