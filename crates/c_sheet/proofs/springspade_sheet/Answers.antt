@@ -1,4 +1,3 @@
-use borrow.Author.Rules.{rules}
 use mathlib.Core.Path.{sym, ap, ◌∙◌}
 use Rattle.c_sheet.specs.SheetEntry.{count_of}
 use Rattle.c_sheet.proofs.springspade_sheet.Goals as goal
