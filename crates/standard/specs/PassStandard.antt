@@ -86,6 +86,10 @@ pub record Whole (f : Std.Frame) (plane : ℕ) (g : WindowShape) : Type 0 where
   pub width : g.width ≡ plane_width f plane
   pub height : g.height ≡ plane_height f plane
 
+-- no sample of the window lies outside of the plane
+pub whole_inside : (f : Std.Frame) (plane : ℕ) (g : WindowShape) (x y : ℕ) → Whole f plane g → x < g.width → y < g.height → (x < plane_width f plane) × (y < plane_height f plane)
+whole_inside f plane g x y w p q = (omega arith, omega arith)
+
 unclamped : (f : Std.Frame) (plane : ℕ) (g : WindowShape) (pass : Pass) (x y r : ℕ) → Whole f plane g → InPlane f plane (pass_number pass) x y r → Unclamped g pass x y r
 unclamped f plane g Vertical x y r w i = record {
   inside = λ k low high.
