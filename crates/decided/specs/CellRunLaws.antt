@@ -4,14 +4,15 @@ use Rattle.std.specs.Prelude.{◌≡◌, ◌⊎◌, Bool, true, false, cond, ltb
 use Rattle.std.proofs.Math.Path.{refl, sym, ap}
 use Rattle.std.proofs.Common.{◌∙◌, inl, inr}
 use mathlib.Core.List.Memᴰ
-use mathlib.Core.List.{List, [], ◌∷◌, ◌++◌, Memᴰ}
+use mathlib.Core.List.{List, [], ◌++◌, Memᴰ}
 use Prim.Native.Nat.{ℕ, zero, suc, ◌+◌, ◌-◌, ◌*◌, ◌%◌, ◌≤◌, ◌<◌}
 use native.Mathlib.Omega.{arith}
 use Rattle.decisions.specs.DecisionLaws.{same_decision}
 use Rattle.decisions.specs.declared.Decision.{Decision}
 use Rattle.geometry.specs.Coordinates.{shr}
 use Rattle.geometry.specs.declared.Pass.{Pass}
-use Rattle.order.specs.Grid.{keep_if, select, select_same, select_const, select_append, strip, strips, grid, strip_mem, strip_split, grid_all}
+use Rattle.order.specs.Grid.{select, select_same, select_const, strip, strips, grid, strip_mem, strip_split}
+use Rattle.order.proofs.Grid.{grid_all}
 use Rattle.pass_edges.specs.PassEdges.{along_sub, cell_start, cell_len, edge_count, edge_len}
 use Rattle.pass_edges.specs.PassEdgesLaws.{edge_len_cells}
 use Rattle.decided.specs.Decided.{Position, position, Setting, decision_at}
@@ -140,7 +141,7 @@ module _ (t : Setting) (pass : Pass) where
   unfolding cell_run
   first_says = grid_all cell_at First (edge_count t.superblock pass) 8 (λ edge c h k. (refl, record { size = refl; level = refl }))
 
-  abbrev Uniform : EdgeRun → Type 0
+  abbrev pub Uniform : EdgeRun → Type 0
   Uniform a = (p : Position) → Memᴰ p (positions_of a) → Says a.size a.level (decision_at t pass p)
 
   cell_uniform : (edge c : ℕ) → Uniform (cell_at edge c)
@@ -168,18 +169,6 @@ module _ (t : Setting) (pass : Pass) where
   abbrev pub filtered : Position → Bool
   filtered p = ltb 0 (level_of (decision_at t pass p))
 
-  uniform_kept : (a : EdgeRun) → Uniform a → select filtered (positions_of a) ≡ cond (run_filters a) (positions_of a) []
+  pub uniform_kept : (a : EdgeRun) → Uniform a → select filtered (positions_of a) ≡ cond (run_filters a) (positions_of a) []
   uniform_kept a u =
       select_same filtered (λ _. run_filters a) (positions_of a) (λ p m. ap (ltb 0) (u p m).level) ∙ select_const (run_filters a) (positions_of a)
-
-  pub kept_positions : (l : List EdgeRun) → ((a : EdgeRun) → Memᴰ a l → Uniform a)
-      → all_positions (select run_filters l) ≡ select filtered (all_positions l)
-  kept_positions [] u = refl
-  kept_positions (a ∷ l) u =
-      kept (run_filters a) (select run_filters l)
-      ∙ (λ i. sym (uniform_kept a (u a (Memᴰ.head refl))) i ++ kept_positions l (λ b m. u b (Memᴰ.tail m)) i)
-      ∙ sym (select_append filtered (positions_of a) (all_positions l))
-    where
-      kept : (b : Bool) (m : List EdgeRun) → all_positions (keep_if b a m) ≡ cond b (positions_of a) [] ++ all_positions m
-      kept true m = refl
-      kept false m = refl

@@ -6,11 +6,9 @@ use Rattle.std.proofs.Common.{◌∙◌, arith, lt-ltb}
 use mathlib.Core.List.{List, [], ◌∷◌, ◌++◌, append_assoc, append-nil}
 use Rattle.geometry.specs.declared.Pass.{Pass}
 use Rattle.geometry.specs.declared.Superblock.{Superblock}
-use Rattle.order.specs.Grid.{select, select_append, strip, grid, strip_split, strips_split}
-use Rattle.pass_edges.specs.PassEdges.{edge_count}
-use Rattle.decided.specs.KeptLaws.{silent}
-use Rattle.decided.specs.KeyRuns.{key_run, key_for, key_cell, key_runs}
-use Rattle.decided.specs.KeyRunLaws.{kept_keys}
+use Rattle.order.specs.Grid.{select, select_append, strip, grid, strip_split}
+use Rattle.order.proofs.Grid.{strips_split}
+use Rattle.decided.specs.KeyRuns.{key_run, key_for, key_cell}
 use Rattle.decided.specs.Runs.{joins, longer, joined_from, run_filters}
 use Rattle.decided.specs.declared.EdgeRun.{EdgeRun}
 
@@ -57,7 +55,7 @@ pending_append a [] m = refl
 pending_append a (b ∷ l) m = pending_append (grown a b) l m
 
 -- with the run that is left pending they are the joined runs
-walked-joined : (a : EdgeRun) (l : List EdgeRun) → walked a l ++ pending a l ∷ [] ≡ joined_from a l
+pub walked-joined : (a : EdgeRun) (l : List EdgeRun) → walked a l ++ pending a l ∷ [] ≡ joined_from a l
 unfolding walked pending closed grown joined_from
 walked-joined a [] = refl
 walked-joined a (b ∷ l) = by (joins a b) (walked-joined (longer a b.count) l) (walked-joined b l)
@@ -110,12 +108,3 @@ module _ (s : Superblock) (pass : Pass) (outer inner : List ℕ) where
   pass_next edge =
       let cell = key_cell s pass outer inner in
       sym (ap (select run_filters) (strips_split cell 0 edge 1 8 edge (omega arith) ∙ ap (λ (l : List EdgeRun). grid cell edge 8 ++ l) (append-nil (strip cell edge 0 8))) ∙ select_append run_filters (grid cell edge 8) (strip cell edge 0 8))
-
-  -- the runs that a walk over all of them closes, and the one that it leaves: those that filter are the runs of the pass
-  pub walked-runs : (a : EdgeRun) → a.level ≡ 0 →
-      let l = pass_cells (edge_count s pass) in
-      select run_filters (walked a l ++ pending a l ∷ []) ≡ key_runs s pass outer inner
-  unfolding pass_cells key_runs
-  walked-runs a e =
-      let l = select run_filters (grid (key_cell s pass outer inner) (edge_count s pass) 8) in
-      ap (select run_filters) (walked-joined a l) ∙ silent a l e ∙ kept_keys s pass outer inner

@@ -4,6 +4,4 @@ pub mod JoinLaws
 pub mod CellRunLaws
 pub mod RunsLaws
 pub mod KeyRuns
-pub mod KeptLaws
-pub mod KeyRunLaws
 pub mod CellWalk

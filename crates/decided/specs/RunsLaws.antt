@@ -3,7 +3,7 @@
 -- Assumes nothing.
 use Rattle.std.specs.Prelude.{◌≡◌, refl, true, false, cond, ◌&&◌, ℕ, ◌+◌, ◌≤◌, ◌<◌, ltb, length}
 use Rattle.std.proofs.Math.Path.{sym, ap}
-use Rattle.std.proofs.Common.{◌∙◌, inl, inr, arith}
+use Rattle.std.proofs.Common.{◌∙◌, arith}
 use Rattle.std.proofs.Math.Bool.{Bool}
 use mathlib.Core.List.{List, Memᴰ}
 use Rattle.std.proofs.Math.Dec.{ltb→lt}
@@ -12,15 +12,16 @@ use Rattle.decisions.specs.DecisionLaws.{decision_size, decision_level}
 use Rattle.decisions.specs.declared.Decision.{Decision}
 use Rattle.geometry.specs.declared.Pass.{Pass}
 use Rattle.geometry.specs.declared.Superblock.{Superblock}
-use Rattle.order.specs.Grid.{select, select_same, select_mem, select_passes, select-select, select-length, grid, grid-length}
+use Rattle.order.specs.Grid.{select, select_mem, select_passes, select-length, grid}
+use Rattle.order.proofs.Grid.{grid-length}
 use Rattle.pass_edges.specs.PassEdges.{along_sub, cell_start, edge_count, edge_len}
 use Rattle.pass_edges.specs.PassEdgesLaws.{edge_count_small, edge_len_small, cell_first}
 use Rattle.geometry.specs.CoordinatesLaws.{shr_small}
-use Rattle.decided.specs.Decided.{Position, position, Setting, decision_at, is_decided, decided, filters}
-use Rattle.decided.specs.Runs.{level_of, cell_run, longer, joined, run_filters, runs, positions_of, all_positions}
-use Rattle.decided.specs.JoinLaws.{Joins, Stopped, Behind, joined_length, joined-positions, joined_stops}
-use Rattle.decided.specs.CellRunLaws.{cell_at, cells_of, joined_cells, whole_cells, whole_room, cells_positions, cells_chain}
-use Rattle.decided.specs.CellRunLaws.{first_says, joined_uniform, filtered, kept_positions}
+use Rattle.decided.specs.Decided.{position, Setting, decision_at, decided, filters}
+use Rattle.decided.specs.Runs.{level_of, cell_run, longer, joined, run_filters, runs}
+use Rattle.decided.specs.JoinLaws.{Joins, Behind, joined_length}
+use Rattle.decided.specs.CellRunLaws.{cell_at, cells_of, joined_cells, whole_cells, whole_room}
+use Rattle.decided.specs.CellRunLaws.{first_says}
 use Rattle.decided.specs.declared.EdgeRun.{EdgeRun}
 
 -- how large the numbers of a run are
@@ -72,14 +73,14 @@ longer_small a b j p q = record { edge = p.edge; first = p.first; count = j.coun
 
 -- ---- levels above 0
 
-level_filters : (d : Decision) → ltb 0 (level_of d) ≡ (d.decided && filters d)
+pub level_filters : (d : Decision) → ltb 0 (level_of d) ≡ (d.decided && filters d)
 level_filters d = by d.decided
   where
     by : (b : Bool) → ltb 0 (cond b d.level 0) ≡ (b && filters d)
     by true = refl
     by false = refl
 
-level_decided : (d : Decision) (n : ℕ) → level_of d ≡ n → 0 < n → (d.decided ≡ true) × (d.level ≡ n)
+pub level_decided : (d : Decision) (n : ℕ) → level_of d ≡ n → 0 < n → (d.decided ≡ true) × (d.level ≡ n)
 level_decided d n e h = by d.decided e
   where
     by : (b : Bool) → cond b d.level 0 ≡ n → (b ≡ true) × (d.level ≡ n)
@@ -91,11 +92,11 @@ module _ (t : Setting) (pass : Pass) where
   runs_of = runs t.superblock pass t.chroma t.cells
 
   -- they are among the joined cells, and their levels are above 0
-  among : (a : EdgeRun) → Memᴰ a runs_of → Memᴰ a (joined (cells_of t pass))
+  pub among : (a : EdgeRun) → Memᴰ a runs_of → Memᴰ a (joined (cells_of t pass))
   unfolding runs
   among a m = select_mem run_filters (joined (cells_of t pass)) m
 
-  above : (a : EdgeRun) → Memᴰ a runs_of → 0 < a.level
+  pub above : (a : EdgeRun) → Memᴰ a runs_of → 0 < a.level
   unfolding runs
   above a m = ltb→lt 0 a.level (select_passes run_filters (joined (cells_of t pass)) m)
 
@@ -110,31 +111,13 @@ module _ (t : Setting) (pass : Pass) where
       let cells = grid-length (cell_at t pass) edges 8 in
       omega (arith, select-length run_filters (joined (cells_of t pass)), edge_count_small t.superblock pass)
 
-  -- the positions of the runs, one run behind the other, are the decided positions with a level above 0
-  pub runs-positions : all_positions runs_of ≡ select (λ p. filters (decision_at t pass p)) (decided t pass)
-  unfolding runs decided is_decided
-  runs-positions =
-      let all = grid position (edge_count t.superblock pass) (edge_len t.superblock pass) in
-      let keeps : Position → Bool = λ p. filters (decision_at t pass p) in
-      kept_positions t pass (joined (cells_of t pass)) (joined_uniform t pass)
-      ∙ ap (select (filtered t pass)) (joined-positions (cells_of t pass) ∙ cells_positions t pass)
-      ∙ select_same (filtered t pass) (λ p. is_decided t pass p && keeps p) all (λ p m. level_filters (decision_at t pass p))
-      ∙ sym (select-select keeps (is_decided t pass) all)
-
-  -- each with the run's size and level
-  pub runs_alike : (a : EdgeRun) → Memᴰ a runs_of → (p : Position) → Memᴰ p (positions_of a) → Alike a (decision_at t pass p)
-  runs_alike a m p k =
-      let says = joined_uniform t pass a (among a m) p k in
-      let d = level_decided (decision_at t pass p) a.level says.level (above a m) in
-      record { decided = d.0; size = says.size; level = d.1 }
-
   -- ---- each run is as long as it may be
 
-  abbrev behind : EdgeRun → Decision
+  abbrev pub behind : EdgeRun → Decision
   behind a = decision_at t pass (position a.edge (a.first + a.count))
 
   -- what goes on behind a shorter run could be joined if it were alike
-  alike_joins : (a : EdgeRun) → Memᴰ a runs_of → a.count < 16 → (b : Behind (cells_of t pass) a) → Alike a (behind a) → Joins a b.next
+  pub alike_joins : (a : EdgeRun) → Memᴰ a runs_of → a.count < 16 → (b : Behind (cells_of t pass) a) → Alike a (behind a) → Joins a b.next
   alike_joins a m h b l =
       let f = first_says t pass b.next b.among in
       let same : behind a ≡ decision_at t pass (position b.next.edge b.next.first) = λ i. decision_at t pass (position (b.edge i) (b.first i)) in
@@ -146,17 +129,3 @@ module _ (t : Setting) (pass : Pass) where
         level = on ∙ ap level_of same ∙ f.1.level;
         count = rw f.0 (whole_room (along_sub t.superblock pass) a.count (whole_cells t pass a (among a m)).1 h);
       }
-
-  pub runs_longest : (a : EdgeRun) → Memᴰ a runs_of → Longest t pass a
-  runs_longest a m =
-      record {
-        level = above a m;
-        some = (whole_cells t pass a (among a m)).0;
-        most = (runs_small a m).count;
-        stops = λ h k l. by h k l (joined_stops (cells_of t pass) (cells_chain t pass) a (among a m));
-      }
-    where
-      by : a.count < 16 → a.first + a.count < edge_len t.superblock pass → Alike a (behind a)
-          → Stopped (edge_len t.superblock pass) (cells_of t pass) a → ⊥
-      by h k l (inl e) = omega arith
-      by h k l (inr b) = b.apart (alike_joins a m h b l)

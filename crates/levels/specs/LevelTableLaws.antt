@@ -7,9 +7,7 @@ use Rattle.base.specs.NotationLaws.{clip_below}
 use Rattle.base.specs.Outcome.{held}
 use Rattle.frame_header.specs.Params.{seg_feature_active}
 use Rattle.level_lookup.specs.LevelLookup.{level_at, zero_levels}
-use Rattle.section_8_8.specs.LoopFilterProcess as Std
 use Rattle.levels.specs.Levels.{clipped_level, lvl_seg, intra_lvl, inter_lvl, entry_lvl, segment_lvl, place_lvl, frame_init}
-use Rattle.levels.specs.LevelsStandard.{header_of, entry_standard}
 use Rattle.frame_header.specs.declared.LoopFilterParams.{LoopFilterParams}
 use Rattle.frame_header.specs.declared.SegmentationParams.{SegmentationParams}
 use Rattle.frame_header.specs.declared.Deltas.{Deltas}
@@ -52,11 +50,11 @@ placed segment ref mode f q r = rw (row, column, side)
     side = omega arith
 
 module _ (lf : LoopFilterParams) (seg : SegmentationParams) (deltas : Deltas) (taken : lf.level ≤ 63) where
-  table : held (frame_init lf seg deltas) zero_levels ≡ filled (place_lvl lf seg deltas) 0 64 zero_levels
+  pub table : held (frame_init lf seg deltas) zero_levels ≡ filled (place_lvl lf seg deltas) 0 64 zero_levels
   unfolding frame_init
   table = rw (le-ltb 63 lf.level taken)
 
-  at : (k : ℕ) → k < 64 → get_or (held (frame_init lf seg deltas) zero_levels) k 0 ≡ place_lvl lf seg deltas k
+  pub at : (k : ℕ) → k < 64 → get_or (held (frame_init lf seg deltas) zero_levels) k 0 ≡ place_lvl lf seg deltas k
   at k h = rw table (rw (zero-add k) at (filled_at (place_lvl lf seg deltas) 0 64 zero_levels k h (omega arith)))
 
   -- the table's entry of a segment, a reference and a mode type
@@ -70,8 +68,3 @@ module _ (lf : LoopFilterParams) (seg : SegmentationParams) (deltas : Deltas) (t
   pub table_small : (k : ℕ) → k < 64 → get_or (held (frame_init lf seg deltas) zero_levels) k 0 ≤ 63
   unfolding place_lvl segment_lvl
   table_small k h = rw (at k h) (entry_small lf deltas (lvl_seg lf seg (k / 8)) (k % 8 / 2) (k % 2) (segment_small lf seg (k / 8) taken))
-
-  -- a header updates deltas only while they are enabled, and an intra block has mode type 0: then the entry is the standard's
-  pub table_standard : (segment ref mode : ℕ) → segment < 8 → ref < 4 → mode < 2 → (lf.delta_update ≡ true → lf.delta_enabled ≡ true) → (ref ≡ 0 → mode ≡ 0) → get_or (held (frame_init lf seg deltas) zero_levels) (level_at segment ref mode) 0 ≡ Std.lvl_lookup (header_of lf seg deltas) segment ref mode
-  table_standard segment ref mode p q r coded intra =
-      table_entry segment ref mode p q r ∙ entry_standard lf seg deltas segment ref mode coded intra

@@ -9,7 +9,7 @@ use Rattle.line.specs.Masks.{hev_mask, filter_mask, flat_at, flat_mask, flat_mas
 use Rattle.line.specs.NarrowFilter.{c, sample, narrow_filter}
 use Rattle.line.specs.SampleFiltering.{sample_filtering}
 use Rattle.wide_filter.specs.Taps.{p, q}
-use Rattle.wide_filter.specs.WideFilterStandard.{taps_of, tap_p, tap_q, wide_standard}
+use Rattle.wide_filter.specs.WideFilterStandard.{taps_of, tap_p, tap_q}
 
 -- ---- masks
 
@@ -47,32 +47,6 @@ narrow_standard B false l = simp (c_standard, sample_standard)
 
 -- ---- the choice
 
-pub sample_filtering_standard : (B size limit blimit thresh : ℕ) (l : Std.Line) → sample_filtering B size limit blimit thresh (taps_of l) ≡ taps_of (Std.sample_filtering B size limit blimit thresh l)
-unfolding sample_filtering Std.sample_filtering
-sample_filtering_standard B size limit blimit thresh l =
-    rw (
-      mask_standard B limit blimit l,
-      flat_standard B l,
-      flat2_standard B l,
-      hev_standard B thresh l,
-      narrow_standard B (Std.hev_mask B thresh l) l,
-      (wide_standard l).0,
-      (wide_standard l).1,
-    )
-    (cases
-    (Std.filter_mask B limit blimit l)
-    (eqb size 0 || not (Std.flat_mask B l))
-    (eqb size 1 || not (Std.flat_mask2 B l))
-    (Std.narrow_filter B (Std.hev_mask B thresh l) l)
-    (Std.wide_filter 3 l)
-    (Std.wide_filter 4 l))
-  where
-    cases : (m f g : Bool) (narrow six fourteen : Std.Line) → cond m (cond f (taps_of narrow) (cond g (taps_of six) (taps_of fourteen))) (taps_of l) ≡ taps_of (cond (not m) l (cond f narrow (cond g six fourteen)))
-    cases false f g narrow six fourteen = refl
-    cases true true g narrow six fourteen = refl
-    cases true false true narrow six fourteen = refl
-    cases true false false narrow six fourteen = refl
-
 -- ---- a list of 16 samples as a line
 
 abbrev pub line_of : List ℕ → Std.Line
@@ -87,10 +61,6 @@ taps_line t e = ext_get_or 0 (taps_of (line_of t)) t (sym e) same
         (λ (g : k < 8). let place : 7 - (7 - k) ≡ k = omega arith in rw place at (tap_p (line_of t) k g))
         (λ (g : 8 ≤ k). let place : 8 + (k - 8) ≡ k = omega arith in rw place at (tap_q (line_of t) k g h))
         (split k 8)
-
-pub line_standard : (B size limit blimit thresh : ℕ) (t : List ℕ) → length t ≡ 16 → sample_filtering B size limit blimit thresh t ≡ taps_of (Std.sample_filtering B size limit blimit thresh (line_of t))
-line_standard B size limit blimit thresh t e =
-    rw (taps_line t e) at (sample_filtering_standard B size limit blimit thresh (line_of t))
 
 -- ---- taps that never change
 

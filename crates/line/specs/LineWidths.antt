@@ -1,7 +1,7 @@
 -- The line at both widths of samples: over a lent list, over bytes, and over the same samples at either width.
 -- Assumes nothing.
 use Rattle.std.specs.Prelude.{◌≡◌, refl, true, false, not, List, ℕ, ◌^◌, ◌≤◌, ◌<◌, ltb, length}
-use Rattle.std.proofs.Common.{◌∙◌, arith}
+use Rattle.std.proofs.Common.{arith}
 use borrow.Author.Tests.{lt-ltb, le-ltb, lt-leb}
 use Rattle.base.specs.Depth.{supported}
 use Rattle.base.specs.First.{found, found_none}
@@ -50,7 +50,3 @@ module _ (depth size limit blimit thresh : ℕ) (t : List ℕ) (d : admits Byte 
 pub same_line : (size limit blimit thresh : ℕ) (t : List ℕ) → line Byte 8 size limit blimit thresh t ≡ line U16 8 size limit blimit thresh t
 unfolding line supported
 same_line size limit blimit thresh t = refl
-
--- and over a lent list that has 16 of them
-pub same_lent : (size limit blimit thresh : ℕ) (t : List ℕ) → 16 ≤ length t → lent_line Byte 8 size limit blimit thresh t ≡ line U16 8 size limit blimit thresh t
-same_lent size limit blimit thresh t h = lent_line_lem Byte 8 size limit blimit thresh t refl h ∙ same_line size limit blimit thresh t

@@ -11,7 +11,7 @@ use Rattle.std.proofs.Math.Decide.{dec_lt}
 use native.Mathlib.Omega.{arith}
 use Rattle.base.specs.Depth.{supported}
 use Rattle.decided.specs.Decided.{Position, position, Setting, decision_at, is_decided, decided, filters}
-use Rattle.decided.specs.KeyRunLaws.{key_for_lem, key_level, key_size}
+use Rattle.decided.proofs.KeyRunLaws.{key_for_lem, key_level, key_size}
 use Rattle.decisions.specs.Decision.{decision}
 use Rattle.decisions.specs.DecisionLaws.{same_decision, decision_size, decision_level}
 use Rattle.decisions.specs.declared.Decision.{Decision}
@@ -22,7 +22,8 @@ use Rattle.keys.specs.Keys.{key_of, key_at, keys_of}
 use Rattle.lanes.specs.KeyLine.{key_line}
 use Rattle.lanes.specs.KeyLineLaws.{key_line_on, key_line_off}
 use Rattle.line.specs.SampleFiltering.{sample_filtering}
-use Rattle.order.specs.Grid.{strip, grid, grid_all, strips_split}
+use Rattle.order.specs.Grid.{strip, grid}
+use Rattle.order.proofs.Grid.{grid_all, strips_split}
 use Rattle.order.specs.Order.{run}
 use Rattle.order.specs.Walk.{run_append, run_strip_next, run_beside}
 use Rattle.pass_edges.specs.PassEdges.{along_sub, cell_len, edge_count, edge_len}

@@ -5,25 +5,22 @@ use Rattle.std.specs.Prelude.{◌≡◌, ◌≢◌, ◌⊎◌, Bool, true, false
 use Rattle.std.proofs.Math.Path.{refl}
 use Rattle.std.proofs.Common.{sym, ◌∙◌, inl, inr, arith}
 use mathlib.Core.List.{List, [], ◌∷◌, Memᴰ}
-use Rattle.base.specs.Outcome.{accepted}
-use Rattle.base.specs.Width.{Width}
 use Rattle.positions.specs.Positions.{luma_x, luma_y, plane_x, plane_y}
-use Rattle.pass_edges.specs.PassEdges.{pass_of, edge_count, edge_len}
+use Rattle.pass_edges.specs.PassEdges.{edge_count, edge_len}
 use Rattle.geometry.specs.Coordinates.{shl, shr}
 use Rattle.geometry.specs.declared.Pass.{Pass}
 use Rattle.geometry.specs.declared.Pass.TheVariants.{Vertical, Horizontal}
 use Rattle.geometry.specs.declared.Superblock.{Superblock}
-use Rattle.order.specs.Grid.{grid, select, select_before, select_mem, select_passes, mem_select, grid_before, grid_mem, mem_grid}
+use Rattle.order.specs.Grid.{grid, select, select_before, select_mem, select_passes, mem_select}
+use Rattle.order.proofs.Grid.{grid_before, grid_mem, mem_grid}
 use Rattle.order.specs.Order.{Before, Once, run, same_run}
 use Rattle.window.specs.Reach.{Reach, reach_apart, stencil_other}
 use Rattle.window.specs.StencilLaws.{applied_exchange}
 use Rattle.window.specs.Window.{place}
 use Rattle.window.specs.WindowLaws.{Lent, Inside}
 use Rattle.window.specs.declared.WindowShape.{WindowShape}
-use Rattle.decided.specs.Decided.{Position, position, Setting, decision_at, is_decided, decided, filters, setting_of}
-use Rattle.pass.specs.Pass.{line_of, step, superblock_loop_filter, superblock_loop_filter_cells}
-use Rattle.pass.specs.PassLaws.{ran}
-use Rattle.pass.specs.WorkLaws.{pass_length}
+use Rattle.decided.specs.Decided.{Position, position, Setting, decision_at, is_decided, decided, filters}
+use Rattle.pass.specs.Pass.{line_of, step}
 
 -- a list that holds each decided position once, nothing else, with edge numbers rising along each line across the edges
 pub record WorkOrder (decided order : List Position) : Type 0 where
@@ -134,7 +131,7 @@ module _ (g : WindowShape) (n : ℕ) (w : Lent g n) (t : Setting) (pass : Pass) 
       crossed p q b c e = omega (arith, u.rising p q b e, v.rising q p c (sym e))
 
   -- a lent sample that is not of the window is left
-  steps_other : (order : List Position) (samples : List ℕ) (j d : ℕ) → ((x y : ℕ) → Inside g x y → j ≢ place g x y) → get_or (run (step g t pass) order samples) j d ≡ get_or samples j d
+  pub steps_other : (order : List Position) (samples : List ℕ) (j d : ℕ) → ((x y : ℕ) → Inside g x y → j ≢ place g x y) → get_or (run (step g t pass) order samples) j d ≡ get_or samples j d
   unfolding step
   steps_other [] samples j d h = refl
   steps_other (p ∷ order) samples j d h =
@@ -148,23 +145,3 @@ pub record SameEnd (g : WindowShape) (t : Setting) (pass : Pass) (samples result
   pub same : run (step g t pass) order samples ≡ result
   pub as_long : length result ≡ length samples
   pub others : (j d : ℕ) → ((x y : ℕ) → Inside g x y → j ≢ place g x y) → get_or result j d ≡ get_or samples j d
-
--- of the definition of the pass, for any window that is lent
-pub order_of_steps : (g : WindowShape) (t : Setting) (pass : Pass) (samples : List ℕ) → Lent g (length samples) → (order : List Position) → WorkOrder (decided t pass) order
-    → SameEnd g t pass samples (superblock_loop_filter g t pass samples) order
-unfolding superblock_loop_filter
-order_of_steps g t pass samples w order o = record {
-  same = orders_agree g _ w t pass order (decided t pass) o (own_order t pass) samples;
-  as_long = pass_length g t pass samples;
-  others = steps_other g _ w t pass (decided t pass) samples;
-}
-
--- and of the operation at each width of samples, as its contract states it, whatever it is given: where it accepts, all orders of
--- work come to its result
-pub order_of_work : (width : Width) (g : WindowShape) (sharpness depth sub_x sub_y mi_cols mi_rows row col plane pass : ℕ) (cells samples result : List ℕ)
-    → superblock_loop_filter_cells width g sharpness depth sub_x sub_y mi_cols mi_rows row col plane pass cells samples ≡ accepted result
-    → (order : List Position) → WorkOrder (decided (setting_of sharpness depth sub_x sub_y mi_cols mi_rows row col plane cells) (pass_of pass)) order
-    → SameEnd g (setting_of sharpness depth sub_x sub_y mi_cols mi_rows row col plane cells) (pass_of pass) samples result order
-order_of_work width g sharpness depth sub_x sub_y mi_cols mi_rows row col plane pass cells samples result e order o =
-    let r = ran width g sharpness depth sub_x sub_y mi_cols mi_rows row col plane pass cells samples result e in
-    rw r.result_is (order_of_steps g (setting_of sharpness depth sub_x sub_y mi_cols mi_rows row col plane cells) (pass_of pass) samples r.lists.window_lent order o)

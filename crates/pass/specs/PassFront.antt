@@ -23,7 +23,8 @@ use Rattle.geometry.specs.Frame.{bad_subsampling, bad_frame_size, bad_start, cel
 use Rattle.geometry.specs.FrameLaws.{sized, cells_small}
 use Rattle.geometry.specs.declared.Pass.{Pass}
 use Rattle.geometry.specs.declared.Superblock.{Superblock}
-use Rattle.order.specs.Grid.{grid, grid_mem, select_mem, select_same}
+use Rattle.order.specs.Grid.{grid, select_mem, select_same}
+use Rattle.order.proofs.Grid.{grid_mem}
 use Rattle.order.specs.Order.{run, run_same}
 use Rattle.positions.specs.Positions.{Placed, luma_x, luma_y}
 use Rattle.pass_edges.specs.PassEdges.{edge_count, edge_len, pass_of}

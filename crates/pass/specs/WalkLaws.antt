@@ -3,7 +3,8 @@
 use Rattle.std.specs.Prelude.{◌≡◌, refl, List, [], ◌∷◌, ◌++◌, ℕ, length}
 use Rattle.std.proofs.Common.{sym, ap, ◌∙◌}
 use Rattle.std.proofs.Math.Bool.{true, false}
-use Rattle.decided.specs.CellWalk.{closed, grown, walked, pending, walked_one, pending_one, walked_append, pending_append, pass_cells, walked-runs}
+use Rattle.decided.specs.CellWalk.{closed, grown, walked, pending, walked_one, pending_one, walked_append, pending_append, pass_cells}
+use Rattle.decided.proofs.CellWalk.{walked-runs}
 use Rattle.decided.specs.KeyRuns.{key_runs}
 use Rattle.decided.specs.Runs.{joins, longer}
 use Rattle.decided.specs.RunsLaws.{Small}

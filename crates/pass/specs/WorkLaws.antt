@@ -10,9 +10,10 @@ use Rattle.std.proofs.Math.ListN.{length}
 use Rattle.base.specs.Depth.{supported, depth_scaled}
 use Rattle.decided.specs.Decided.{Position, position, Setting, decision_at, decided, filters}
 use Rattle.decided.specs.KeyRuns.{key_runs}
-use Rattle.decided.specs.KeyRunLaws.{key_runs_lem}
+use Rattle.decided.proofs.KeyRunLaws.{key_runs_lem}
 use Rattle.decided.specs.Runs.{run_filters, positions_of, all_positions}
-use Rattle.decided.specs.RunsLaws.{runs_of, runs-positions, runs_alike, runs_longest}
+use Rattle.decided.specs.RunsLaws.{runs_of}
+use Rattle.decided.proofs.RunsLaws.{runs-positions, runs_alike, runs_longest}
 use Rattle.decided.specs.declared.EdgeRun.{EdgeRun}
 use Rattle.geometry.specs.Frame.{cells_from}
 use Rattle.geometry.specs.declared.Pass.{Pass}

@@ -5,7 +5,8 @@ use Rattle.std.specs.Prelude.{◌≡◌, true, ◌&&◌, List, ℕ, ◌+◌, ◌
 use Rattle.std.proofs.Common.{sym, ap, ◌∙◌, zero-add, arith}
 use Rattle.geometry.specs.FrameStandard.{pass_number}
 use Rattle.geometry.specs.declared.Pass.{Pass}
-use Rattle.line.specs.LineStandard.{sample_filtering_standard, beyond_kept}
+use Rattle.line.specs.LineStandard.{beyond_kept}
+use Rattle.line.proofs.LineStandard.{sample_filtering_standard}
 use Rattle.line.specs.SampleFiltering.{sample_filtering}
 use Rattle.line.specs.SampleFilteringLaws.{reads, reads_few, filters_same}
 use Rattle.section_8_8.specs.LoopFilterProcess as Std

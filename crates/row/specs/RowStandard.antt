@@ -15,7 +15,7 @@ use Rattle.blocks.specs.ModeInfo.{sb_size, is_intra}
 use Rattle.blocks.specs.ModeInfoLaws.{block, sb_size_small}
 use Rattle.chroma_transforms.specs.ChromaTransforms.{uv_tx_size}
 use Rattle.chroma_transforms.specs.ChromaTransformsLaws.{uv_tx_small}
-use Rattle.chroma_transforms.specs.ChromaTransformsStandard.{uv_tx_standard}
+use Rattle.chroma_transforms.proofs.ChromaTransformsStandard.{uv_tx_standard}
 use Rattle.geometry.specs.Frame.{bad_subsampling, bad_frame_size, bad_start, cells_from}
 use Rattle.level_lookup.specs.LevelLookup.{level_at}
 use Rattle.level_lookup.specs.LevelLookupLaws.{lookup_entry, lookup_segment, lookup_large, lookup_negative}

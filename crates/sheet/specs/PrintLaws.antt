@@ -6,14 +6,16 @@ use Rattle.std.proofs.Math.Path.{sym, ap}
 use Rattle.std.proofs.Common.{◌∙◌, arith, lt-ltb, le-ltb, length-append}
 use Rattle.std.proofs.Math.Bool.{true, false}
 use mathlib.Core.List.{List, [], ◌∷◌, ◌++◌, append_assoc, append-nil}
-use Rattle.decided.specs.CellWalk.{closed, grown, walked, pending, walked_one, pending_one, walked_append, pending_append, edge_cells, pass_cells, walked-runs}
+use Rattle.decided.specs.CellWalk.{closed, grown, walked, pending, walked_one, pending_one, walked_append, pending_append, edge_cells, pass_cells}
+use Rattle.decided.proofs.CellWalk.{walked-runs}
 use Rattle.decided.specs.KeyRuns.{key_cell, key_runs}
 use Rattle.decided.specs.Runs.{joins, longer, run_filters}
 use Rattle.decided.specs.RunsLaws.{Small}
 use Rattle.decided.specs.declared.EdgeRun.{EdgeRun}
 use Rattle.geometry.specs.declared.Pass.{Pass}
 use Rattle.geometry.specs.declared.Superblock.{Superblock}
-use Rattle.order.specs.Grid.{keep_if, select, select_append, select-length, strip, grid, grid-length, strip_length}
+use Rattle.order.specs.Grid.{keep_if, select, select_append, select-length, strip, grid, strip_length}
+use Rattle.order.proofs.Grid.{grid-length}
 use Rattle.pass_edges.specs.PassEdges.{edge_count}
 use Rattle.text.specs.Text.{Put}
 use Rattle.text.specs.TextLaws.{written_none, written-length, put_then}

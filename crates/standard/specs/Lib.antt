@@ -1,4 +1,3 @@
 pub mod FrameLists
 pub mod TableStandard
-pub mod DecidedStandard
 pub mod PassStandard

@@ -7,7 +7,7 @@ use Rattle.frame_header.specs.Params.{resolved_from, default_deltas}
 use Rattle.frame_header.specs.declared.LoopFilterParams.{LoopFilterParams}
 use Rattle.frame_header.specs.declared.SegmentationParams.{SegmentationParams}
 use Rattle.level_lookup.specs.LevelLookup.{zero_levels, level_at}
-use Rattle.levels.specs.LevelTableLaws.{table_standard}
+use Rattle.levels.proofs.LevelTableLaws.{table_standard}
 use Rattle.levels.specs.Levels.{level_table}
 use Rattle.levels.specs.LevelsStandard.{header_of}
 use Rattle.section_8_8.specs.LoopFilterProcess as Std

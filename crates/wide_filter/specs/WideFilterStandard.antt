@@ -3,12 +3,11 @@
 use Rattle.std.specs.Prelude.{◌≡◌, refl, List, [], ◌∷◌, ℕ, zero, suc, ◌+◌, ◌-◌, ◌≤◌, ◌<◌, ℤ, pos, negsuc, ◌+ℤ◌, ◌-ℤ◌}
 use Rattle.std.proofs.Common.{arith}
 use Rattle.std.specs.Int.Signed.{mag}
-use Rattle.base.specs.Filled.{filled, filled_same}
 use Rattle.base.specs.Notation.{clip3}
 use Rattle.base.specs.NotationLaws.{mag_clip}
 use Rattle.section_8_8.specs.LoopFilterProcess as Std
 use Rattle.wide_filter.specs.Taps.{tap, p, q, f_at}
-use Rattle.wide_filter.specs.WideFilter.{sum_to, smoothed, wide_filter}
+use Rattle.wide_filter.specs.WideFilter.{sum_to}
 
 -- p7 to p0, and then q0 to q7
 abbrev pub taps_of : Std.Line → List ℕ
@@ -51,28 +50,10 @@ f_at-standard l (pos k) h = taps_q l k h
 f_at-standard l (negsuc k) h = taps_p l k h
 
 -- no sum reads past p_n and q_n
-sum_standard : (n : ℕ) (l : Std.Line) (i : ℤ) (m : ℕ) → n ≤ 7 → sum_to n (taps_of l) i m ≡ Std.sum_to n l i m
+pub sum_standard : (n : ℕ) (l : Std.Line) (i : ℤ) (m : ℕ) → n ≤ 7 → sum_to n (taps_of l) i m ≡ Std.sum_to n l i m
 unfolding sum_to Std.sum_to
 sum_standard n l i zero h = refl
 sum_standard n l i (suc m) h =
     let z = i +ℤ (pos m -ℤ pos n) in
     let near : mag (clip3 (negsuc n) (pos n) z) < suc n = mag_clip (negsuc n) (pos n) z (omega arith) (omega arith) in
     rw (sum_standard n l i m h, f_at-standard l (clip3 (negsuc n) (pos n) z) (omega arith))
-
-smoothed_standard : (l : Std.Line) (i : ℤ) → (smoothed 3 (taps_of l) i ≡ Std.smoothed 3 3 l i) × (smoothed 4 (taps_of l) i ≡ Std.smoothed 7 4 l i)
-unfolding smoothed Std.smoothed
-smoothed_standard l i = (rw (sum_standard 3 l i 7 (omega arith)), rw (sum_standard 7 l i 15 (omega arith)))
-
--- both write F'[ i ] at place 8 + i
-pub wide_standard : (l : Std.Line) → (wide_filter 3 (taps_of l) ≡ taps_of (Std.wide_filter 3 l)) × (wide_filter 4 (taps_of l) ≡ taps_of (Std.wide_filter 4 l))
-unfolding wide_filter Std.wide_filter filled
-wide_standard l = (
-  filled_same (ours 3) (theirs 3 3) 5 6 (taps_of l) (λ k h. (smoothed_standard l (pos (5 + k) -ℤ pos 8)).0),
-  filled_same (ours 4) (theirs 7 4) 1 14 (taps_of l) (λ k h. (smoothed_standard l (pos (1 + k) -ℤ pos 8)).1),
-)
-  where
-    ours : (log2_size k : ℕ) → ℕ
-    ours log2_size k = smoothed log2_size (taps_of l) (pos k -ℤ pos 8)
-
-    theirs : (n log2_size k : ℕ) → ℕ
-    theirs n log2_size k = Std.smoothed n log2_size l (pos k -ℤ pos 8)

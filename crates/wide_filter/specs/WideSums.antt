@@ -1,11 +1,10 @@
 -- The sums of the wide filter as the code forms them, one side at a time.
 -- Assumes nothing.
-use Rattle.std.specs.Prelude.{◌≡◌, List, [], ◌∷◌, ℕ, zero, suc, ◌+◌, ◌-◌, ◌*◌, ◌/◌, pos, negsuc, set}
+use Rattle.std.specs.Prelude.{◌≡◌, List, [], ◌∷◌, ℕ, zero, suc, ◌+◌, ◌-◌, ◌*◌, ◌/◌, pos, negsuc}
 use Rattle.std.proofs.Common.{arith}
-use Rattle.base.specs.Filled.{filled}
 use Rattle.base.specs.Notation.{clip3}
 use Rattle.wide_filter.specs.Taps.{tap, p, q}
-use Rattle.wide_filter.specs.WideFilter.{sum_to, smoothed, wide_filter}
+use Rattle.wide_filter.specs.WideFilter.{sum_to, smoothed}
 
 -- x_0 + .. + x_m
 abbrev sum : List ℕ → ℕ → ℕ
@@ -13,7 +12,7 @@ sum x zero = tap x 0
 sum x (suc m) = sum x m + tap x (suc m)
 
 -- the sample x_i where n change on each side, from the side x and the other side y, each counted from the edge
-abbrev side : ℕ → List ℕ → List ℕ → ℕ → ℕ
+abbrev pub side : ℕ → List ℕ → List ℕ → ℕ → ℕ
 side n x y i = (tap x n * (i + 1) + (sum x (n - 1) + (n + 1)) + tap x i + sum y (n - 1 - i)) / (2 * (n + 1))
 
 abbrev pub six : ℕ → ℕ → ℕ → ℕ → ℕ → ℕ → ℕ → ℕ → ℕ
@@ -25,20 +24,10 @@ fourteen x7 x6 x5 x4 x3 x2 x1 x0 y0 y1 y2 y3 y4 y5 y6 = side 7 (x0 ∷ x1 ∷ x2
 over : (d : ℕ) {a b : ℕ} → a ≡ b → a / d ≡ b / d
 over d e = rw e
 
-six_sums : (t : List ℕ) → (smoothed 3 t (negsuc 2) ≡ six (p t 3) (p t 2) (p t 1) (p t 0) (q t 0) (q t 1) (q t 2) 2) × (smoothed 3 t (negsuc 1) ≡ six (p t 3) (p t 2) (p t 1) (p t 0) (q t 0) (q t 1) (q t 2) 1) × (smoothed 3 t (negsuc 0) ≡ six (p t 3) (p t 2) (p t 1) (p t 0) (q t 0) (q t 1) (q t 2) 0) × (smoothed 3 t (pos 0) ≡ six (q t 3) (q t 2) (q t 1) (q t 0) (p t 0) (p t 1) (p t 2) 0) × (smoothed 3 t (pos 1) ≡ six (q t 3) (q t 2) (q t 1) (q t 0) (p t 0) (p t 1) (p t 2) 1) × (smoothed 3 t (pos 2) ≡ six (q t 3) (q t 2) (q t 1) (q t 0) (p t 0) (p t 1) (p t 2) 2)
+pub six_sums : (t : List ℕ) → (smoothed 3 t (negsuc 2) ≡ six (p t 3) (p t 2) (p t 1) (p t 0) (q t 0) (q t 1) (q t 2) 2) × (smoothed 3 t (negsuc 1) ≡ six (p t 3) (p t 2) (p t 1) (p t 0) (q t 0) (q t 1) (q t 2) 1) × (smoothed 3 t (negsuc 0) ≡ six (p t 3) (p t 2) (p t 1) (p t 0) (q t 0) (q t 1) (q t 2) 0) × (smoothed 3 t (pos 0) ≡ six (q t 3) (q t 2) (q t 1) (q t 0) (p t 0) (p t 1) (p t 2) 0) × (smoothed 3 t (pos 1) ≡ six (q t 3) (q t 2) (q t 1) (q t 0) (p t 0) (p t 1) (p t 2) 1) × (smoothed 3 t (pos 2) ≡ six (q t 3) (q t 2) (q t 1) (q t 0) (p t 0) (p t 1) (p t 2) 2)
 unfolding smoothed sum_to clip3
 six_sums t = (over 8 (omega arith), over 8 (omega arith), over 8 (omega arith), over 8 (omega arith), over 8 (omega arith), over 8 (omega arith))
 
--- the six samples, stored in turn
-pub wide_six : (t : List ℕ) (a2 a1 a0 b0 b1 b2 : ℕ) → a2 ≡ six (p t 3) (p t 2) (p t 1) (p t 0) (q t 0) (q t 1) (q t 2) 2 → a1 ≡ six (p t 3) (p t 2) (p t 1) (p t 0) (q t 0) (q t 1) (q t 2) 1 → a0 ≡ six (p t 3) (p t 2) (p t 1) (p t 0) (q t 0) (q t 1) (q t 2) 0 → b0 ≡ six (q t 3) (q t 2) (q t 1) (q t 0) (p t 0) (p t 1) (p t 2) 0 → b1 ≡ six (q t 3) (q t 2) (q t 1) (q t 0) (p t 0) (p t 1) (p t 2) 1 → b2 ≡ six (q t 3) (q t 2) (q t 1) (q t 0) (p t 0) (p t 1) (p t 2) 2 → set (set (set (set (set (set t 5 a2) 6 a1) 7 a0) 8 b0) 9 b1) 10 b2 ≡ wide_filter 3 t
-unfolding wide_filter filled
-wide_six t a2 a1 a0 b0 b1 b2 ea2 ea1 ea0 eb0 eb1 eb2 = let (sa2, sa1, sa0, sb0, sb1, sb2) = six_sums t in rw (ea2, ea1, ea0, eb0, eb1, eb2, sa2, sa1, sa0, sb0, sb1, sb2)
-
-fourteen_sums : (t : List ℕ) → (smoothed 4 t (negsuc 6) ≡ fourteen (p t 7) (p t 6) (p t 5) (p t 4) (p t 3) (p t 2) (p t 1) (p t 0) (q t 0) (q t 1) (q t 2) (q t 3) (q t 4) (q t 5) (q t 6) 6) × (smoothed 4 t (negsuc 5) ≡ fourteen (p t 7) (p t 6) (p t 5) (p t 4) (p t 3) (p t 2) (p t 1) (p t 0) (q t 0) (q t 1) (q t 2) (q t 3) (q t 4) (q t 5) (q t 6) 5) × (smoothed 4 t (negsuc 4) ≡ fourteen (p t 7) (p t 6) (p t 5) (p t 4) (p t 3) (p t 2) (p t 1) (p t 0) (q t 0) (q t 1) (q t 2) (q t 3) (q t 4) (q t 5) (q t 6) 4) × (smoothed 4 t (negsuc 3) ≡ fourteen (p t 7) (p t 6) (p t 5) (p t 4) (p t 3) (p t 2) (p t 1) (p t 0) (q t 0) (q t 1) (q t 2) (q t 3) (q t 4) (q t 5) (q t 6) 3) × (smoothed 4 t (negsuc 2) ≡ fourteen (p t 7) (p t 6) (p t 5) (p t 4) (p t 3) (p t 2) (p t 1) (p t 0) (q t 0) (q t 1) (q t 2) (q t 3) (q t 4) (q t 5) (q t 6) 2) × (smoothed 4 t (negsuc 1) ≡ fourteen (p t 7) (p t 6) (p t 5) (p t 4) (p t 3) (p t 2) (p t 1) (p t 0) (q t 0) (q t 1) (q t 2) (q t 3) (q t 4) (q t 5) (q t 6) 1) × (smoothed 4 t (negsuc 0) ≡ fourteen (p t 7) (p t 6) (p t 5) (p t 4) (p t 3) (p t 2) (p t 1) (p t 0) (q t 0) (q t 1) (q t 2) (q t 3) (q t 4) (q t 5) (q t 6) 0) × (smoothed 4 t (pos 0) ≡ fourteen (q t 7) (q t 6) (q t 5) (q t 4) (q t 3) (q t 2) (q t 1) (q t 0) (p t 0) (p t 1) (p t 2) (p t 3) (p t 4) (p t 5) (p t 6) 0) × (smoothed 4 t (pos 1) ≡ fourteen (q t 7) (q t 6) (q t 5) (q t 4) (q t 3) (q t 2) (q t 1) (q t 0) (p t 0) (p t 1) (p t 2) (p t 3) (p t 4) (p t 5) (p t 6) 1) × (smoothed 4 t (pos 2) ≡ fourteen (q t 7) (q t 6) (q t 5) (q t 4) (q t 3) (q t 2) (q t 1) (q t 0) (p t 0) (p t 1) (p t 2) (p t 3) (p t 4) (p t 5) (p t 6) 2) × (smoothed 4 t (pos 3) ≡ fourteen (q t 7) (q t 6) (q t 5) (q t 4) (q t 3) (q t 2) (q t 1) (q t 0) (p t 0) (p t 1) (p t 2) (p t 3) (p t 4) (p t 5) (p t 6) 3) × (smoothed 4 t (pos 4) ≡ fourteen (q t 7) (q t 6) (q t 5) (q t 4) (q t 3) (q t 2) (q t 1) (q t 0) (p t 0) (p t 1) (p t 2) (p t 3) (p t 4) (p t 5) (p t 6) 4) × (smoothed 4 t (pos 5) ≡ fourteen (q t 7) (q t 6) (q t 5) (q t 4) (q t 3) (q t 2) (q t 1) (q t 0) (p t 0) (p t 1) (p t 2) (p t 3) (p t 4) (p t 5) (p t 6) 5) × (smoothed 4 t (pos 6) ≡ fourteen (q t 7) (q t 6) (q t 5) (q t 4) (q t 3) (q t 2) (q t 1) (q t 0) (p t 0) (p t 1) (p t 2) (p t 3) (p t 4) (p t 5) (p t 6) 6)
+pub fourteen_sums : (t : List ℕ) → (smoothed 4 t (negsuc 6) ≡ fourteen (p t 7) (p t 6) (p t 5) (p t 4) (p t 3) (p t 2) (p t 1) (p t 0) (q t 0) (q t 1) (q t 2) (q t 3) (q t 4) (q t 5) (q t 6) 6) × (smoothed 4 t (negsuc 5) ≡ fourteen (p t 7) (p t 6) (p t 5) (p t 4) (p t 3) (p t 2) (p t 1) (p t 0) (q t 0) (q t 1) (q t 2) (q t 3) (q t 4) (q t 5) (q t 6) 5) × (smoothed 4 t (negsuc 4) ≡ fourteen (p t 7) (p t 6) (p t 5) (p t 4) (p t 3) (p t 2) (p t 1) (p t 0) (q t 0) (q t 1) (q t 2) (q t 3) (q t 4) (q t 5) (q t 6) 4) × (smoothed 4 t (negsuc 3) ≡ fourteen (p t 7) (p t 6) (p t 5) (p t 4) (p t 3) (p t 2) (p t 1) (p t 0) (q t 0) (q t 1) (q t 2) (q t 3) (q t 4) (q t 5) (q t 6) 3) × (smoothed 4 t (negsuc 2) ≡ fourteen (p t 7) (p t 6) (p t 5) (p t 4) (p t 3) (p t 2) (p t 1) (p t 0) (q t 0) (q t 1) (q t 2) (q t 3) (q t 4) (q t 5) (q t 6) 2) × (smoothed 4 t (negsuc 1) ≡ fourteen (p t 7) (p t 6) (p t 5) (p t 4) (p t 3) (p t 2) (p t 1) (p t 0) (q t 0) (q t 1) (q t 2) (q t 3) (q t 4) (q t 5) (q t 6) 1) × (smoothed 4 t (negsuc 0) ≡ fourteen (p t 7) (p t 6) (p t 5) (p t 4) (p t 3) (p t 2) (p t 1) (p t 0) (q t 0) (q t 1) (q t 2) (q t 3) (q t 4) (q t 5) (q t 6) 0) × (smoothed 4 t (pos 0) ≡ fourteen (q t 7) (q t 6) (q t 5) (q t 4) (q t 3) (q t 2) (q t 1) (q t 0) (p t 0) (p t 1) (p t 2) (p t 3) (p t 4) (p t 5) (p t 6) 0) × (smoothed 4 t (pos 1) ≡ fourteen (q t 7) (q t 6) (q t 5) (q t 4) (q t 3) (q t 2) (q t 1) (q t 0) (p t 0) (p t 1) (p t 2) (p t 3) (p t 4) (p t 5) (p t 6) 1) × (smoothed 4 t (pos 2) ≡ fourteen (q t 7) (q t 6) (q t 5) (q t 4) (q t 3) (q t 2) (q t 1) (q t 0) (p t 0) (p t 1) (p t 2) (p t 3) (p t 4) (p t 5) (p t 6) 2) × (smoothed 4 t (pos 3) ≡ fourteen (q t 7) (q t 6) (q t 5) (q t 4) (q t 3) (q t 2) (q t 1) (q t 0) (p t 0) (p t 1) (p t 2) (p t 3) (p t 4) (p t 5) (p t 6) 3) × (smoothed 4 t (pos 4) ≡ fourteen (q t 7) (q t 6) (q t 5) (q t 4) (q t 3) (q t 2) (q t 1) (q t 0) (p t 0) (p t 1) (p t 2) (p t 3) (p t 4) (p t 5) (p t 6) 4) × (smoothed 4 t (pos 5) ≡ fourteen (q t 7) (q t 6) (q t 5) (q t 4) (q t 3) (q t 2) (q t 1) (q t 0) (p t 0) (p t 1) (p t 2) (p t 3) (p t 4) (p t 5) (p t 6) 5) × (smoothed 4 t (pos 6) ≡ fourteen (q t 7) (q t 6) (q t 5) (q t 4) (q t 3) (q t 2) (q t 1) (q t 0) (p t 0) (p t 1) (p t 2) (p t 3) (p t 4) (p t 5) (p t 6) 6)
 unfolding smoothed sum_to clip3
 fourteen_sums t = (over 16 (omega arith), over 16 (omega arith), over 16 (omega arith), over 16 (omega arith), over 16 (omega arith), over 16 (omega arith), over 16 (omega arith), over 16 (omega arith), over 16 (omega arith), over 16 (omega arith), over 16 (omega arith), over 16 (omega arith), over 16 (omega arith), over 16 (omega arith))
-
--- the fourteen samples, stored in turn
-pub wide_fourteen : (t : List ℕ) (a6 a5 a4 a3 a2 a1 a0 b0 b1 b2 b3 b4 b5 b6 : ℕ) → a6 ≡ fourteen (p t 7) (p t 6) (p t 5) (p t 4) (p t 3) (p t 2) (p t 1) (p t 0) (q t 0) (q t 1) (q t 2) (q t 3) (q t 4) (q t 5) (q t 6) 6 → a5 ≡ fourteen (p t 7) (p t 6) (p t 5) (p t 4) (p t 3) (p t 2) (p t 1) (p t 0) (q t 0) (q t 1) (q t 2) (q t 3) (q t 4) (q t 5) (q t 6) 5 → a4 ≡ fourteen (p t 7) (p t 6) (p t 5) (p t 4) (p t 3) (p t 2) (p t 1) (p t 0) (q t 0) (q t 1) (q t 2) (q t 3) (q t 4) (q t 5) (q t 6) 4 → a3 ≡ fourteen (p t 7) (p t 6) (p t 5) (p t 4) (p t 3) (p t 2) (p t 1) (p t 0) (q t 0) (q t 1) (q t 2) (q t 3) (q t 4) (q t 5) (q t 6) 3 → a2 ≡ fourteen (p t 7) (p t 6) (p t 5) (p t 4) (p t 3) (p t 2) (p t 1) (p t 0) (q t 0) (q t 1) (q t 2) (q t 3) (q t 4) (q t 5) (q t 6) 2 → a1 ≡ fourteen (p t 7) (p t 6) (p t 5) (p t 4) (p t 3) (p t 2) (p t 1) (p t 0) (q t 0) (q t 1) (q t 2) (q t 3) (q t 4) (q t 5) (q t 6) 1 → a0 ≡ fourteen (p t 7) (p t 6) (p t 5) (p t 4) (p t 3) (p t 2) (p t 1) (p t 0) (q t 0) (q t 1) (q t 2) (q t 3) (q t 4) (q t 5) (q t 6) 0 → b0 ≡ fourteen (q t 7) (q t 6) (q t 5) (q t 4) (q t 3) (q t 2) (q t 1) (q t 0) (p t 0) (p t 1) (p t 2) (p t 3) (p t 4) (p t 5) (p t 6) 0 → b1 ≡ fourteen (q t 7) (q t 6) (q t 5) (q t 4) (q t 3) (q t 2) (q t 1) (q t 0) (p t 0) (p t 1) (p t 2) (p t 3) (p t 4) (p t 5) (p t 6) 1 → b2 ≡ fourteen (q t 7) (q t 6) (q t 5) (q t 4) (q t 3) (q t 2) (q t 1) (q t 0) (p t 0) (p t 1) (p t 2) (p t 3) (p t 4) (p t 5) (p t 6) 2 → b3 ≡ fourteen (q t 7) (q t 6) (q t 5) (q t 4) (q t 3) (q t 2) (q t 1) (q t 0) (p t 0) (p t 1) (p t 2) (p t 3) (p t 4) (p t 5) (p t 6) 3 → b4 ≡ fourteen (q t 7) (q t 6) (q t 5) (q t 4) (q t 3) (q t 2) (q t 1) (q t 0) (p t 0) (p t 1) (p t 2) (p t 3) (p t 4) (p t 5) (p t 6) 4 → b5 ≡ fourteen (q t 7) (q t 6) (q t 5) (q t 4) (q t 3) (q t 2) (q t 1) (q t 0) (p t 0) (p t 1) (p t 2) (p t 3) (p t 4) (p t 5) (p t 6) 5 → b6 ≡ fourteen (q t 7) (q t 6) (q t 5) (q t 4) (q t 3) (q t 2) (q t 1) (q t 0) (p t 0) (p t 1) (p t 2) (p t 3) (p t 4) (p t 5) (p t 6) 6 → set (set (set (set (set (set (set (set (set (set (set (set (set (set t 1 a6) 2 a5) 3 a4) 4 a3) 5 a2) 6 a1) 7 a0) 8 b0) 9 b1) 10 b2) 11 b3) 12 b4) 13 b5) 14 b6 ≡ wide_filter 4 t
-unfolding wide_filter filled
-wide_fourteen t a6 a5 a4 a3 a2 a1 a0 b0 b1 b2 b3 b4 b5 b6 ea6 ea5 ea4 ea3 ea2 ea1 ea0 eb0 eb1 eb2 eb3 eb4 eb5 eb6 = let (sa6, sa5, sa4, sa3, sa2, sa1, sa0, sb0, sb1, sb2, sb3, sb4, sb5, sb6) = fourteen_sums t in rw (ea6, ea5, ea4, ea3, ea2, ea1, ea0, eb0, eb1, eb2, eb3, eb4, eb5, eb6, sa6, sa5, sa4, sa3, sa2, sa1, sa0, sb0, sb1, sb2, sb3, sb4, sb5, sb6)

@@ -1,6 +1,6 @@
 use mathlib.Core.Path.{◌∙◌}
 use Rattle.decided.specs.Decided.{Setting, setting}
-use Rattle.decided.specs.KeyRunLaws.{keys_small}
+use Rattle.decided.proofs.KeyRunLaws.{keys_small}
 use Rattle.pass.specs.ChunkLaws.{pass_of_chunks}
 use Rattle.pass.specs.WorkLaws.{ready_able}
 use Rattle.byte_pass.proofs.superblock_loop_filter_bytes_unchecked.Goals as goal

@@ -2,7 +2,7 @@ use mathlib.Core.Path.{refl, sym, ◌∙◌}
 use Prim.Native.Nat.{◌/◌, ◌≤◌}
 use lib.ListN.{length}
 use Rattle.decided.specs.Decided.{Setting, setting}
-use Rattle.decided.specs.KeyRunLaws.{keys_small}
+use Rattle.decided.proofs.KeyRunLaws.{keys_small}
 use Rattle.geometry.specs.Frame.{cells_from}
 use Rattle.pass.specs.ChunkLaws.{pass_of_chunks}
 use Rattle.pass.specs.WorkLaws.{ready_able}

@@ -1,6 +1,6 @@
 use mathlib.Core.Path.{◌≡◌}
 use Rattle.decided.specs.KeyRuns.{key_run}
-use Rattle.decided.specs.KeyRunLaws.{run_small}
+use Rattle.decided.proofs.KeyRunLaws.{run_small}
 use Rattle.decided.specs.RunsLaws.{Small}
 use Rattle.decided.specs.declared.EdgeRun.{EdgeRun}
 use Rattle.decided.proofs.key_run_unchecked.Goals as goal

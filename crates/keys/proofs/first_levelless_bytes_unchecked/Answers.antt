@@ -1,7 +1,7 @@
 use mathlib.Core.Path.{◌∙◌}
 use Rattle.word_bytes.specs.WordBytes.{words_of}
 use Rattle.word_bytes.specs.WordBytesLaws.{words_of-length}
-use Rattle.keys.specs.FetchedLaws.{first_told}
+use Rattle.keys.proofs.FetchedLaws.{first_told}
 use Rattle.keys.proofs.first_levelless_bytes_unchecked.Goals as goal
 
 pub returns : goal.returns

@@ -1,5 +1,5 @@
 use mathlib.Core.Path.{◌∙◌}
-use Rattle.keys.specs.FetchedLaws.{first_told}
+use Rattle.keys.proofs.FetchedLaws.{first_told}
 use Rattle.keys.proofs.first_levelless_unchecked.Goals as goal
 
 pub returns : goal.returns

@@ -1,6 +1,6 @@
 use Rattle.word_bytes.specs.WordBytes.{words_of}
 use Rattle.word_bytes.specs.WordBytesLaws.{words_of-length}
-use Rattle.keys.specs.FetchedLaws.{told}
+use Rattle.keys.proofs.FetchedLaws.{told}
 use Rattle.keys.proofs.keys_bytes_unchecked.Goals as goal
 
 pub returns : goal.returns

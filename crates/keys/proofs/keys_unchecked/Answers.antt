@@ -1,4 +1,4 @@
-use Rattle.keys.specs.FetchedLaws.{told}
+use Rattle.keys.proofs.FetchedLaws.{told}
 use Rattle.keys.proofs.keys_unchecked.Goals as goal
 
 pub returns : goal.returns

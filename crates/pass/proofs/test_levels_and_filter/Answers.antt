@@ -1,6 +1,6 @@
 use mathlib.Core.Path.{refl, sym, ◌∙◌}
 use Rattle.decided.specs.Decided.{Setting, setting}
-use Rattle.decided.specs.KeyRunLaws.{keys_small}
+use Rattle.decided.proofs.KeyRunLaws.{keys_small}
 use Rattle.pass.specs.WorkLaws.{ready_able, keys_filtered}
 use Rattle.pass.proofs.test_levels_and_filter.Goals as goal
 use Rattle.pass.proofs.test_levels_and_filter.Tie as tie

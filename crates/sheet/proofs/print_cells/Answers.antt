@@ -1,7 +1,7 @@
 use Rattle.std.proofs.Common.{◌≡◌, sym, ◌∙◌, [], true, false, arith}
 use Rattle.base.specs.First.{found, first, first_is}
 use Rattle.bad_words.specs.BadWord.{bad_cell}
-use Rattle.decided.specs.KeyRunLaws.{keys_small, key_runs_lem}
+use Rattle.decided.proofs.KeyRunLaws.{keys_small, key_runs_lem}
 use Rattle.pass_edges.specs.PassEdges.{pass_of}
 use Rattle.pass_edges.specs.PassEdgesLaws.{edge_count_small}
 use Rattle.sheet.specs.Sheet.{sheet_setting}

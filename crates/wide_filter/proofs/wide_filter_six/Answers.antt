@@ -1,5 +1,5 @@
 use lib.Dec.{lit<}
-use Rattle.wide_filter.specs.WideSums.{wide_six}
+use Rattle.wide_filter.proofs.WideSums.{wide_six}
 use Rattle.wide_filter.proofs.wide_filter_six.Goals as goal
 
 pub returns : goal.returns

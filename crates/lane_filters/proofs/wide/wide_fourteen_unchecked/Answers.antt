@@ -1,4 +1,4 @@
-use Rattle.wide_filter.specs.WideSums.{wide_fourteen}
+use Rattle.wide_filter.proofs.WideSums.{wide_fourteen}
 use Rattle.lane_filters.specs.LaneSamples.{samples_of}
 use Rattle.lane_filters.proofs.wide.wide_fourteen_unchecked.Goals as goal
 

@@ -1,4 +1,4 @@
-use Rattle.wide_filter.specs.WideSums.{wide_six}
+use Rattle.wide_filter.proofs.WideSums.{wide_six}
 use Rattle.lane_filters.specs.LaneSamples.{samples_of}
 use Rattle.lane_filters.proofs.wide.wide_six_unchecked.Goals as goal
 

@@ -8,7 +8,8 @@ use mathlib.Core.List.{List, [], ◌∷◌, Memᴰ}
 use Rattle.geometry.specs.Coordinates.{shr}
 use Rattle.geometry.specs.declared.Pass.{Pass}
 use Rattle.geometry.specs.declared.Superblock.{Superblock}
-use Rattle.order.specs.Grid.{keep_if, select, select_mem, grid, grid_all, grid_before}
+use Rattle.order.specs.Grid.{keep_if, select, select_mem, grid}
+use Rattle.order.proofs.Grid.{grid_all, grid_before}
 use Rattle.order.specs.Order.{Before, Before-now, Before-later}
 use Rattle.pass_edges.specs.PassEdges.{along_sub, cell_start, cell_len}
 use Rattle.decided.specs.JoinLaws.{Joins, joins_true}

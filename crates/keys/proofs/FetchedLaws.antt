@@ -16,7 +16,7 @@ use Rattle.pass_edges.specs.PassEdges.{along_sub, edge_count, cell_start}
 use Rattle.pass_edges.specs.PassEdgesLaws.{cell_first}
 use Rattle.positions.specs.Positions.{Placed}
 use Rattle.keys.specs.Keys.{Told}
-use Rattle.keys.specs.KeysLaws.{edge_pairs, lack_by_lem, word_at, keys_by, lacks_by}
+use Rattle.keys.proofs.KeysLaws.{edge_pairs, lack_by_lem, word_at, keys_by, lacks_by}
 use Rattle.keys.specs.PlainKeys.{turned_of, pairs, lack_at, place_by, fetched, PlainTold}
 use Rattle.keys.specs.declared.Keys.{Keys}
 

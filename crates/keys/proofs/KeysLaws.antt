@@ -25,7 +25,7 @@ use Rattle.positions.specs.Positions.{Placed, luma_x, luma_y}
 use Rattle.decisions.specs.Decision.{cell_index, decision_by, decision, without_level, levelless}
 use Rattle.decisions.specs.declared.Decision.{Decision}
 use Rattle.decisions.specs.LevellessLaws.{levelless_at_lem, levelless-behind, levelless_cell}
-use Rattle.keys.specs.EdgeLimitsLaws.{screen_by, block_by, transform_field, transform_by, size_by_limits, index_by}
+use Rattle.keys.proofs.EdgeLimitsLaws.{screen_by, block_by, transform_field, transform_by, size_by_limits, index_by}
 use Rattle.keys.specs.Keys.{key_of, key_at, key_in, keys_of}
 use Rattle.keys.specs.PlainKeys.{turned_of, pairs, limits_of, plain, field, key_by, lack_by, plain_key, plain_lack, word_from, word_in}
 use Rattle.keys.specs.declared.turned.Turned.{Turned}

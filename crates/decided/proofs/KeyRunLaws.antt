@@ -23,7 +23,7 @@ use Rattle.pass_edges.specs.PassEdges.{along_sub, cell_start, edge_count}
 use Rattle.pass_edges.specs.PassEdgesLaws.{edge_count_small, edge_len_small, cell_first}
 use Rattle.decided.specs.Runs.{level_of, cell_run, joined, run_filters, runs}
 use Rattle.decided.specs.KeyRuns.{key_run, key_for, key_cell, key_runs, Keyed}
-use Rattle.decided.specs.KeptLaws.{kept_grid}
+use Rattle.decided.proofs.KeptLaws.{kept_grid}
 use Rattle.decided.specs.RunsLaws.{Small}
 use Rattle.decided.specs.declared.EdgeRun.{EdgeRun}
 

@@ -1,0 +1,5 @@
+pub mod KeptLaws
+pub mod KeyRunLaws
+pub mod CellRunLaws
+pub mod RunsLaws
+pub mod CellWalk

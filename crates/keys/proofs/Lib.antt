@@ -1,0 +1,3 @@
+pub mod EdgeLimitsLaws
+pub mod KeysLaws
+pub mod FetchedLaws

@@ -1,0 +1,2 @@
+pub mod LineStandard
+pub mod LineWidths

@@ -1,0 +1,2 @@
+pub mod DecidedStandard
+pub mod PassStandard

@@ -1,0 +1,2 @@
+pub mod WideSums
+pub mod WideFilterStandard
