@@ -1,4 +1,4 @@
--- The run sheet at the C border: a count, 0 where there was no room. A text is never empty (`sheet-some`).
+-- The run sheet at the C border: a count, 0 where there was no room. A text is never empty (`sheet_some`).
 -- Assumes nothing.
 use Rattle.std.specs.Prelude.{ℕ}
 use Rattle.sheet.specs.declared.SheetAnswer.{SheetAnswer}

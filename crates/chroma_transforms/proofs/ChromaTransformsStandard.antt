@@ -1,4 +1,4 @@
--- The transform of a chroma block is the standard's.
+-- The chroma transform is the page's.
 -- Assumes nothing.
 use Rattle.std.specs.Prelude.{◌≡◌, refl, Bool, true, false, cond, ℕ, ◌≤◌, min, eqb, ltb}
 use Rattle.std.proofs.Common.{arith}

@@ -1,4 +1,4 @@
--- Laws of the cells of a pass as runs, and of what joining makes of them: which positions they have, and how these are decided.
+-- The positions of the runs that filter are the decided ones of level above 0.
 -- Assumes nothing.
 use Rattle.std.specs.Prelude.{◌≡◌, Bool, true, false, cond}
 use Rattle.std.proofs.Math.Path.{refl, sym}

@@ -1,4 +1,4 @@
--- A walk over the cells of a pass that filter, one after the other: the runs that are closed on the way, and the run that may still grow.
+-- A walk over the cells of a pass gives its runs.
 -- Assumes nothing.
 use Rattle.std.specs.Prelude.{◌≡◌, ℕ, ◌+◌}
 use Rattle.std.proofs.Math.Path.{ap}

@@ -1,4 +1,4 @@
--- Cells that filter nothing may be left out before cells are joined: the runs that filter stay the same (`kept-grid`).
+-- Cells that filter nothing may be left out before cells are joined: the runs that filter stay the same (`kept_grid`).
 -- Assumes nothing.
 use Rattle.std.specs.Prelude.{◌≡◌, Bool, cond, ℕ, ◌+◌, ◌*◌, ◌≤◌, ◌<◌}
 use Rattle.std.proofs.Math.Path.{refl, sym, ap}

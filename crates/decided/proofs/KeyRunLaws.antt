@@ -1,4 +1,4 @@
--- The runs that keys make are the runs of the pass (`key-runs`), and keys are small (`keys-small`).
+-- The runs that keys make are the runs of the pass (`key_runs_lem`), and keys are small (`keys_small`).
 -- Assumes nothing.
 use Rattle.std.specs.Prelude.{◌≡◌, Bool, ◌&&◌, ℕ, zero, suc, ◌+◌, ◌*◌, ◌/◌, ◌%◌, ◌≤◌, ◌<◌, length, get_or}
 use Rattle.std.proofs.Math.Path.{refl, sym, ap}

@@ -73,7 +73,7 @@ joined_length (a ∷ l) = joining_length (joining a l)
 module _ (P : EdgeRun → Type 0) (more : (a b : EdgeRun) → Joins a b → P a → P b → P (longer a b.count)) where
   joining_all : {a : EdgeRun} {l r : List EdgeRun} → Joining a l r → P a → ((b : EdgeRun) → Memᴰ b l → P b)
       → (x : EdgeRun) → Memᴰ x r → P x
-  joining_all (Joining-end {a = a}) p h x (mathlib.Core.List.Memᴰ.tail m) = elim m [ ]
+  joining_all (Joining-end {a = a}) p h x (Memᴰ.tail m) = elim m [ ]
   joining_all Joining-end p h x (Memᴰ.head e) = rw e p
   joining_all (Joining-join {a} {b} j k) p h x m = joining_all k (more a b j p (h b (Memᴰ.head refl))) (λ y i. h y (Memᴰ.tail i)) x m
   joining_all (Joining-part n k) p h x (Memᴰ.head e) = rw e p
@@ -144,7 +144,7 @@ module _ {len : ℕ} where
   parted {b = b} n (Chain-goes e f c) = inr (record { next = b; among = Memᴰ.head refl; edge = e; first = f; apart = n })
 
   joining_stops : {a : EdgeRun} {l r : List EdgeRun} → Joining a l r → Chain len (a ∷ l) → (x : EdgeRun) → Memᴰ x r → Stopped len l x
-  joining_stops (Joining-end {a = a}) (Chain-ends h c) x (mathlib.Core.List.Memᴰ.tail m) = elim m [ ]
+  joining_stops (Joining-end {a = a}) (Chain-ends h c) x (Memᴰ.tail m) = elim m [ ]
   joining_stops Joining-end (Chain-ends h c) x (Memᴰ.head e) = rw e (inl h)
   joining_stops (Joining-join j k) c x m = later (joining_stops k (chain_longer j (chain_tail c)) x m)
   joining_stops (Joining-part n k) c x (Memᴰ.head e) = rw e (parted n c)

@@ -1,5 +1,5 @@
 -- Laws of the runs of a pass, for their users: how large they are, that they have exactly the decided positions that filter, in order
--- (`runs-positions`), each with the run's size and level (`runs-alike`), and that each run is as long as it may be (`runs-longest`).
+-- (`runs-positions`), each with the run's size and level (`runs_alike`), and that each run is as long as it may be (`runs_longest`).
 -- Assumes nothing.
 use Rattle.std.specs.Prelude.{◌≡◌, refl, true, false, cond, ◌&&◌, ℕ, ◌+◌, ◌≤◌, ◌<◌, ltb, length}
 use Rattle.std.proofs.Math.Path.{sym, ap}

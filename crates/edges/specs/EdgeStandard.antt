@@ -1,5 +1,5 @@
 -- Edge facts that are accepted are the standard's steps at their position, for the mode info of the cell that the position reads
--- (`edge-standard`).
+-- (`edge_standard`).
 -- Assumes nothing.
 use Rattle.std.specs.Prelude.{◌≡◌, ℕ, ◌≤◌, ◌<◌, eqb, ltb}
 use Rattle.std.proofs.Common.{sym, subst, arith, ltb-false}

@@ -1,4 +1,4 @@
--- Laws of the level table for its users: what stands at each place, how large it is, and where it is the standard's.
+-- The level table is the page's (`table_standard`).
 -- Assumes nothing.
 use Rattle.std.specs.Prelude.{◌≡◌, true, ℕ, ◌≤◌, ◌<◌, get_or}
 use Rattle.std.proofs.Common.{◌∙◌}

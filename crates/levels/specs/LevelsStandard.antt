@@ -31,7 +31,7 @@ module _ (lf : LoopFilterParams) (seg : SegmentationParams) (deltas : Deltas) wh
   unfolding lvl_seg clipped_level Std.lvl_seg
   lvl_seg_standard segment = refl
 
-  -- steps 3 and 4, under the premises of `table-standard`
+  -- steps 3 and 4, under the premises of `table_standard`
   pub entry_standard : (segment ref mode : ℕ) → (lf.delta_update ≡ true → lf.delta_enabled ≡ true) → (ref ≡ 0 → mode ≡ 0) → entry_lvl lf deltas (lvl_seg lf seg segment) ref mode ≡ Std.lvl_lookup (header_of lf seg deltas) segment ref mode
   unfolding entry_lvl intra_lvl inter_lvl clipped_level Std.lvl_lookup
   entry_standard segment ref mode coded intra =

@@ -1,4 +1,4 @@
--- The line of 16 samples is the standard's: masks, narrow filter and choice, for any depth, size and strength.
+-- The line is the page's sample filtering (`line_standard`).
 -- Assumes nothing.
 use Rattle.std.specs.Prelude.{◌≡◌, refl, Bool, true, false, cond, not, ◌||◌, List, ℕ, eqb, length}
 use Rattle.section_8_8.specs.LoopFilterProcess as Std

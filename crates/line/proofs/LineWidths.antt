@@ -1,4 +1,4 @@
--- The line at both widths of samples: over a lent list, over bytes, and over the same samples at either width.
+-- A line that is lent as bytes and as u16 gives the same answer (`same_lent`).
 -- Assumes nothing.
 use Rattle.std.specs.Prelude.{◌≡◌, refl, List, ℕ, ◌≤◌, length}
 use Rattle.std.proofs.Common.{◌∙◌}

@@ -1,5 +1,4 @@
--- Lists in rising order, as the decided positions of a pass are: the pairs of a grid, first number by first number, kept where a
--- test admits them (`select`).
+-- What the members of a grid are, and in which order they stand.
 -- Assumes nothing.
 use Rattle.std.specs.Prelude.{◌≡◌, ◌⊎◌, ℕ, zero, suc, ◌+◌, ◌*◌, ◌≤◌, ◌<◌, length}
 use Rattle.std.proofs.Common.{◌∙◌, inl, inr, suc-add, suc-mul, zero-add, zero-mul, arith, length-append}
@@ -53,7 +52,7 @@ module _ {A : Type 0} (mk : ℕ → ℕ → A) where
   -- a relation that holds from a pair to each later one of its strip, and to all of the later strips, holds along the grid
   module _ (R : A → A → Type 0) (along : (e i j : ℕ) → i < j → R (mk e i) (mk e j)) (down : (e f i j : ℕ) → e < f → R (mk e i) (mk f j)) where
     strip_before : (e i n : ℕ) {x y : A} → Before x y ((strip mk) e i n) → R x y
-    strip_before e i zero {x = x} {y = y} x3 = elim x3 [ ]
+    strip_before e i zero {x = x} {y = y} m = elim m [ ]
     strip_before e i (suc n) {x} {y} (Before-now d m) =
         let r = (strip_mem mk) e (suc i) n m in
         let same : r.e ≡ e = omega arith in

@@ -147,7 +147,7 @@ module _ {A : Type 0} (mk : ℕ → ℕ → A) where
     pub to : i < i₁
 
   pub strip_mem : (e i n : ℕ) {x : A} → Memᴰ x (strip e i n) → Cell x e (suc e) i (i + n)
-  strip_mem e i zero x3 = elim x3 [ ]
+  strip_mem e i zero m = elim m [ ]
   strip_mem e i (suc n) (Memᴰ.head d) = record { e = e; i = i; is = d; low = omega arith; high = omega arith; from = omega arith; to = omega arith }
   strip_mem e i (suc n) (Memᴰ.tail m) =
       let r = strip_mem e (suc i) n m in

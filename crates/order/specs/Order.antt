@@ -1,5 +1,5 @@
 -- Orders of work. `run step l s` does the steps of l from s, first to last. Two lists that hold the same members, each once, come to
--- the same end if every two members whose order differs between them have steps that can be exchanged (`same-run`).
+-- the same end if every two members whose order differs between them have steps that can be exchanged (`same_run`).
 -- Assumes nothing.
 use Rattle.std.specs.Prelude.{◌≡◌, refl, ◌⊎◌, ℕ, zero, suc, ◌<◌}
 use Rattle.std.proofs.Common.{sym, ap, ◌∙◌, inl, inr, suc-le-suc, le_of_suc-le-suc, not-suc-le-zero, zero-lt-suc, arith}

@@ -1,5 +1,4 @@
--- THE ORDER OF WORK, document 01's condition 3: every order of work on the decided positions of a pass ends with the samples that the
--- pass leaves, and changes none outside the window (`order-of-work`).
+-- The order of work: any such order of the decided positions ends with the samples that the pass leaves (`order_of_work`).
 -- Assumes nothing.
 use Rattle.std.specs.Prelude.{◌≡◌, ℕ, length}
 use mathlib.Core.List.{List}

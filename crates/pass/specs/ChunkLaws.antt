@@ -1,5 +1,5 @@
--- The pass by chunks is the pass (`pass-of-chunks`), and what the code does for positions with keys is what they do: inside the window
--- with no clamps and no tests (`keyed-inside`), at its border position by position (`keyed-on`, `keyed-off`).
+-- The pass by chunks is the pass (`pass_of_chunks`), and what the code does for positions with keys is what they do: inside the window
+-- with no clamps and no tests (`keyed_inside`), at its border position by position (`keyed_on`, `keyed_off`).
 -- Assumes nothing.
 use Rattle.std.specs.Prelude.{◌≡◌, Bool, true, false, ltb, length}
 use Rattle.std.proofs.Math.Path.{refl, sym, ap}

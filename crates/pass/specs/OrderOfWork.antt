@@ -1,5 +1,5 @@
 -- THE ORDER OF WORK, document 01's condition 3: every order of work on the decided positions of a pass ends with the samples that the
--- pass leaves, and changes none outside the window (`order-of-work`).
+-- pass leaves, and changes none outside the window (`order_of_work`).
 -- Assumes nothing.
 use Rattle.std.specs.Prelude.{◌≡◌, ◌≢◌, ◌⊎◌, Bool, true, false, ℕ, ◌+◌, ◌*◌, ◌<◌, length, get_or}
 use Rattle.std.proofs.Math.Path.{refl}

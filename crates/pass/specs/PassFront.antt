@@ -1,4 +1,4 @@
--- A pass reads no cell behind those of its superblock row, of which there are at most 65,536 (`pass-front`).
+-- A pass reads no cell behind those of its superblock row, of which there are at most 65,536 (`pass_front`).
 -- Assumes nothing.
 use Rattle.std.specs.Prelude.{◌≡◌, Bool, not, ◌||◌, ℕ, zero, suc, ◌*◌, ◌/◌, ◌%◌, ◌^◌, ◌<◌, ◌≤◌, length, get_or, take}
 use Rattle.std.proofs.Math.Path.{refl, ap}

@@ -1,5 +1,5 @@
 -- One position's step on a window and on the standard's plane: where no tap that the filter size reads is clamped, they do the same
--- to every sample of the window (`step-standard`).
+-- to every sample of the window (`step_standard`).
 -- Assumes nothing.
 use Rattle.std.specs.Prelude.{◌≡◌, true, ◌&&◌, List, ℕ, ◌+◌, ◌-◌, ◌≤◌, ◌<◌, length, get_or}
 use Rattle.std.proofs.Common.{sym, ap, ◌∙◌, zero-add, arith}

@@ -1,7 +1,7 @@
 -- The loop filter process of VP9-S, section 8.8, for a whole frame: from header values and mode info to three planes, in the
 -- standard's order and with its names and step numbers. Nothing is called the standard's that is not proved equal to this page.
 -- A plane is a function of a sample's x and y, mode info one of a cell's row and column. That no tap is read outside of the frame
--- is a theorem (`taps-in-plane`). Assumes nothing.
+-- is a theorem (`taps_in_plane`). Assumes nothing.
 use Rattle.std.specs.Prelude.{Bool, false, cond, not, ◌&&◌, ◌||◌, List, [], ◌∷◌, ℕ, zero, suc, ◌+◌, ◌-◌, ◌*◌, ◌/◌, ◌%◌, min, max, eqb, leb, ltb, ℤ, pos, negsuc, neg_ℤ, nat_abs, ◌+ℤ◌, ◌-ℤ◌, ◌*ℤ◌, get_or}
 use Rattle.std.specs.Int.Signed.{le_z}
 use Rattle.base.specs.Notation.{clip3, ◌<<◌, ◌>>◌, shl_z, asr_z, abs_diff, round2, round2_z}

@@ -5,7 +5,7 @@ use Rattle.sheet.specs.declared.SheetAnswer.{SheetAnswer}
 use Rattle.sheet.specs.declared.SheetAnswer.TheVariants.{Written, Room}
 use Rattle.sheet.specs.Sheet.{run_sheet}
 
--- 2,048 bytes are always enough (`sheet-fits`); a buffer of fewer is left as it is
+-- 2,048 bytes are always enough (`sheet_fits`); a buffer of fewer is left as it is
 abbrev pub enough : (out : List ℕ) → Bool
 enough out = ltb 2047 (length out)
 

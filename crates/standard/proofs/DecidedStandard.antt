@@ -1,5 +1,5 @@
 -- What the words of an accepted row decide of a position is what 8.8.2's steps 1 to 16 make of the frame: whether it is filtered
--- (`decided-standard`), with which size and which level (`size-standard`, `level-standard`).
+-- (`decided_standard`), with which size and which level (`size_standard`, `level_standard`).
 -- Assumes nothing.
 use Rattle.std.specs.Prelude.{◌≡◌, Bool, not, ◌||◌, List, ℕ, zero, suc, ◌-◌, ◌^◌, ◌≤◌, ◌<◌, eqb, ltb, ℤ, pos, negsuc, nat_abs, get_or}
 use Rattle.std.proofs.Math.Path.{refl, sym, ap}

@@ -1,5 +1,4 @@
--- Over the words that the row makes from mode info, the pass is the standard's: its positions, their sizes and levels, and in a
--- window that is the whole plane every sample (`pass-standard`).
+-- The pass over a row's words is the page's (`pass_standard`).
 -- Assumes nothing.
 use Rattle.std.specs.Prelude.{◌≡◌, Bool, cond, not, ◌&&◌, eqb, ltb}
 use Rattle.std.proofs.Math.Path.{refl, sym, ap}

@@ -1,5 +1,5 @@
 -- Over the words that the row makes from mode info, the pass is the standard's: its positions, their sizes and levels, and in a
--- window that is the whole plane every sample (`pass-standard`).
+-- window that is the whole plane every sample (`pass_standard`).
 -- Assumes nothing.
 use Rattle.std.specs.Prelude.{◌≡◌}
 use Rattle.std.proofs.Common.{arith}

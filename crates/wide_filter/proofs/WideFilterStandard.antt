@@ -1,4 +1,4 @@
--- The taps of the standard's line as a list, and the wide filter on them: it is the standard's.
+-- The wide filter is the page's.
 -- Assumes nothing.
 use Rattle.std.specs.Prelude.{◌≡◌, ℕ, ◌+◌, ◌-◌, ℤ, pos, ◌-ℤ◌}
 use Rattle.std.proofs.Common.{arith}

@@ -1,4 +1,4 @@
--- The sums of the wide filter as the code forms them, one side at a time.
+-- The sums that the wide filter forms are the smoothed taps.
 -- Assumes nothing.
 use Rattle.std.specs.Prelude.{◌≡◌, List, ℕ, set}
 use Rattle.base.specs.Filled.{filled}

@@ -1,5 +1,5 @@
 -- How far a position reaches: it reads and stores within its own line of the window, or stores nothing. Positions whose lines do not
--- meet can be exchanged (`reach-apart`), and samples outside the window are left (`stencil-other`).
+-- meet can be exchanged (`reach_apart`), and samples outside the window are left (`stencil_other`).
 -- Assumes nothing.
 use Rattle.std.specs.Prelude.{◌≡◌, refl, ◌≢◌, Bool, true, false, List, ℕ, ◌+◌, ◌-◌, ◌≤◌, ◌<◌, get_or}
 use Rattle.std.proofs.Common.{sym, ◌∙◌, subst, arith}

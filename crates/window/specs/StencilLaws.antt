@@ -1,4 +1,4 @@
--- Laws of stencils: what they leave alone, what they store, and that two which meet nowhere can be exchanged (`applied-exchange`).
+-- Laws of stencils: what they leave alone, what they store, and that two which meet nowhere can be exchanged (`applied_exchange`).
 -- Assumes nothing.
 use Rattle.std.specs.Prelude.{◌≡◌, ◌≢◌, Bool, true, false, length, get_or, set}
 use Rattle.std.proofs.Math.Path.{refl, ap}
