@@ -1,6 +1,6 @@
 -- The first place at which a test holds, and the refusal that names it.
 -- Assumes nothing.
-use Rattle.std.specs.Prelude.{◌≡◌, refl, ◌⊎◌, Bool, true, false, cond, ◌||◌, ℕ, zero, suc, ◌+◌, ◌-◌, ◌≤◌, ◌<◌, T}
+use Rattle.std.specs.Prelude.{◌≡◌, refl, ◌⊎◌, Bool, true, false, cond, ◌||◌, ℕ, zero, suc, ◌+◌, ◌-◌, ◌≤◌, ◌<◌, T, Option, Some, None}
 use Rattle.std.proofs.Common.{sym, ◌∙◌, subst, inl, inr, ⊎_elim, add-zero, add-suc, eq-or-lt_of_le, le_of_suc-le-suc, not-suc-le-zero, add-one, arith}
 use Rattle.base.specs.Outcome.{Outcome, refuse}
 use Rattle.base.specs.Tests.{neither}
@@ -18,6 +18,10 @@ first_from test k (suc n) = cond (test k) k (first_from test (k + 1) n)
 abbrev pub first : (ℕ → Bool) → ℕ → ℕ
 first test n = first_from test 0 n
 
+-- the same as an answer: the place, if there is one
+abbrev pub first_found : (ℕ → Bool) → ℕ → Option ℕ
+first_found test n = cond (found test n) (Some (first test n)) None
+
 -- a line of document 01's table whose place is the smallest that offends
 abbrev pub refuse_first : {A : Type 0} → (ℕ → Bool) → ℕ → ℕ → Outcome A → Outcome A
 refuse_first test n number after = refuse (found test n) number (first test n) after
@@ -29,6 +33,21 @@ found-start test = refl
 pub found_more : (test : ℕ → Bool) (n : ℕ) → found test n || test n ≡ found test (n + 1)
 unfolding found
 found_more test n = rw (add-one n)
+
+-- what an answer of a search says of the test
+pub place_found : (test : ℕ → Bool) (n : ℕ) {k : ℕ} → first_found test n ≡ Some k → (found test n ≡ true) × (first test n ≡ k)
+place_found test n = cases (found test n) refl
+  where
+    cases : (b : Bool) {k : ℕ} → found test n ≡ b → cond b (Some (first test n)) None ≡ Some k → (found test n ≡ true) × (first test n ≡ k)
+    cases true e f = (e, cc)
+    cases false e f = absurd cc
+
+pub no_place : (test : ℕ → Bool) (n : ℕ) → first_found test n ≡ None → found test n ≡ false
+no_place test n = cases (found test n) refl
+  where
+    cases : (b : Bool) → found test n ≡ b → cond b (Some (first test n)) None ≡ None → found test n ≡ false
+    cases true e f = absurd cc
+    cases false e f = e
 
 -- a test that holds nowhere
 pub found_none : (test : ℕ → Bool) (n : ℕ) → ((k : ℕ) → k < n → test k ≡ false) → found test n ≡ false

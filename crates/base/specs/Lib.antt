@@ -11,3 +11,4 @@ pub mod First
 pub mod FirstLaws
 pub mod Depth
 pub mod Width
+pub mod Fault
