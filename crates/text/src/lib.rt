@@ -21,8 +21,8 @@ pub fn put_bytes_unchecked(out: &mut [u8], at: usize, text: &[u8]) -> usize
     ensures { Put at text.now out.old out.new result }
 {
     let mut end = at;
-    for k in 0..text.len() {
-        end = put_byte_unchecked(out, end, text[k]);
+    for byte in text {
+        end = put_byte_unchecked(out, end, *byte);
     }
     end
 }
