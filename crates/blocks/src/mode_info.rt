@@ -5,6 +5,7 @@ ghost use Rattle.blocks.specs.ModeInfo.{bad_block, sb_size, is_intra};
 const BLOCK_16X16: u8 = 6;
 
 // Document 01's test 8.
+#[tactic(auto, unfolding(crate::specs::ModeInfo::bad_block))]
 pub fn bad_block(mi_size: u8, tx_size: u8, skip: u8) -> bool
     ensures { result ≡ bad_block mi_size tx_size skip }
 {
@@ -12,15 +13,12 @@ pub fn bad_block(mi_size: u8, tx_size: u8, skip: u8) -> bool
 }
 
 // The size that decides where block edges are.
+#[tactic(auto, unfolding(crate::specs::ModeInfo::sb_size))]
 pub fn sb_size(sub: bool, mi_size: u8) -> u8
     ensures { result ≡ sb_size sub mi_size }
 {
     if sub {
-        if mi_size < BLOCK_16X16 {
-            BLOCK_16X16
-        } else {
-            mi_size
-        }
+        mi_size.max(BLOCK_16X16)
     } else {
         mi_size
     }
