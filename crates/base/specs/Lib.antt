@@ -9,6 +9,7 @@ pub mod Machine
 pub mod Tests
 pub mod First
 pub mod FirstLaws
+pub mod FromFn
 pub mod Depth
 pub mod Width
 pub mod Fault

@@ -5,6 +5,8 @@ ghost use Rattle.std.specs.Prelude.{◌≡◌, ◌≤◌};
 ghost use Rattle.blocks.specs.BlockSizes.{by_size};
 ghost use Rattle.chroma_transforms.specs.ChromaTransforms.{max_tx_size, ss_size, uv_limit};
 
+use std::array;
+
 const BLOCK_8X8: u8 = 3;
 
 const BLOCK_INVALID: u8 = 14;
@@ -34,18 +36,11 @@ fn ss_size_unchecked(size: u8, subx: bool, suby: bool) -> u8
     ensures { result ≡ ss_size size subx suby }
 {
     let at = size as usize;
-    if subx {
-        if suby {
-            SS_SIZE_LOOKUP_1_1[at]
-        } else {
-            SS_SIZE_LOOKUP_1_0[at]
-        }
-    } else {
-        if suby {
-            SS_SIZE_LOOKUP_0_1[at]
-        } else {
-            SS_SIZE_LOOKUP_0_0[at]
-        }
+    match (subx, suby) {
+        (false, false) => SS_SIZE_LOOKUP_0_0[at],
+        (false, true) => SS_SIZE_LOOKUP_0_1[at],
+        (true, false) => SS_SIZE_LOOKUP_1_0[at],
+        (true, true) => SS_SIZE_LOOKUP_1_1[at],
     }
 }
 
@@ -67,9 +62,5 @@ fn uv_limit_unchecked(subx: bool, suby: bool, mi_size: u8) -> u8
 pub fn uv_limit_table(subx: bool, suby: bool) -> [u8; 13]
     ensures { result ≡ by_size (uv_limit subx suby) }
 {
-    let mut limits = [0u8; 13];
-    for size in 0..13 {
-        limits[size] = uv_limit_unchecked(subx, suby, size as u8);
-    }
-    limits
+    array::from_fn(move |size| uv_limit_unchecked(subx, suby, size as u8))
 }
