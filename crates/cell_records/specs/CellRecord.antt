@@ -31,10 +31,9 @@ cell_in c =
 unfoldable pub word_of : CellRecord → ℕ
 word_of c = cond (too_large c) 1 (packed (cell_in c))
 
--- the record of a word
-abbrev pub record_of : ℕ → CellRecord
-record_of w =
-    let c = cell_of w in
+-- the record of a cell, and of a word
+abbrev pub record_in : LfCell → CellRecord
+record_in c =
     record {
       width0 = c.width0;
       width1 = c.width1;
@@ -46,6 +45,9 @@ record_of w =
       present = bit c.present;
       level = c.level;
     }
+
+abbrev pub record_of : ℕ → CellRecord
+record_of w = record_in (cell_of w)
 
 -- what stands for a record that a list does not have
 abbrev pub none : CellRecord

@@ -2,8 +2,7 @@
 #![tactic(auto)]
 
 ghost use Rattle.std.specs.Prelude.{◌≡◌};
-ghost use Rattle.cells.specs.Cell.{bit};
-ghost use Rattle.cell_records.specs.CellRecord.{too_large, word_of, record_of};
+ghost use Rattle.cell_records.specs.CellRecord.{too_large, word_of, record_in, record_of};
 
 use cells::{LfCell, pack_unchecked};
 
@@ -68,26 +67,27 @@ pub fn word_of(c: CellRecord) -> u32
     pack_unchecked(cell)
 }
 
-fn flag(b: bool) -> u8
-    ensures { result ≡ bit b }
-{
-    if b { 1 } else { 0 }
+impl From<LfCell> for CellRecord {
+    ghost from_gives = { λ c r. r ≡ record_in c };
+
+    fn from(cell: LfCell) -> Self {
+        CellRecord {
+            width0: cell.width0,
+            width1: cell.width1,
+            height0: cell.height0,
+            height1: cell.height1,
+            tx: cell.tx,
+            uvtx: cell.uvtx,
+            skipped: u8::from(cell.skipped),
+            present: u8::from(cell.present),
+            level: cell.level,
+        }
+    }
 }
 
 // The record of any word; what stands in its zero bits is left out.
 pub fn record_of(word: u32) -> CellRecord
     ensures { result ≡ record_of word }
 {
-    let cell = LfCell::unpack(word);
-    CellRecord {
-        width0: cell.width0,
-        width1: cell.width1,
-        height0: cell.height0,
-        height1: cell.height1,
-        tx: cell.tx,
-        uvtx: cell.uvtx,
-        skipped: flag(cell.skipped),
-        present: flag(cell.present),
-        level: cell.level,
-    }
+    CellRecord::from(LfCell::unpack(word))
 }

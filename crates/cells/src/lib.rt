@@ -47,10 +47,11 @@ impl LfCell {
     }
 }
 
+// With its bound, which sums of fields need.
 fn bit(b: bool) -> u32
     ensures { (result ≡ bit b) × (result ≤ 1) }
 {
-    if b { 1 } else { 0 }
+    u32::from(b)
 }
 
 // The word of a cell whose fields fit their bits.
