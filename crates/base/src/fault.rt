@@ -2,6 +2,7 @@
 ghost use Rattle.std.specs.Prelude.{◌≡◌};
 ghost use Rattle.base.specs.Fault.{number_of, place_of};
 
+use std::error::Error;
 use std::fmt;
 
 // A line of document 01's table of refusals, with its place where the line names one.
@@ -75,3 +76,5 @@ impl fmt::Display for Fault {
         write!(f, "refused {} place {}", self.number(), self.place())
     }
 }
+
+impl Error for Fault {}
