@@ -1,46 +1,32 @@
 // Prints a built-in line, a step at the edge, before the filter and after it at each size.
-use crate::output::print_number;
-use line::{LineAnswer, sample_filtering};
-use std::io;
-use strength::{FilterStrength, StrengthAnswer, strength_for_level};
+use anyhow::Result;
+use line::sample_filtering;
+use strength::strength_for_level;
 
 // p7 to p0, then q0 to q7.
-fn step() -> [u16; 16] {
-    let p = 100;
-    let q = 104;
-    [p, p, p, p, p, p, p, p, q, q, q, q, q, q, q, q]
-}
+const STEP: [u16; 16] = [
+    100, 100, 100, 100, 100, 100, 100, 100, 104, 104, 104, 104, 104, 104, 104, 104,
+];
 
-pub(crate) fn print_sample(rt: &impl Print, sample: u16) -> io::Result<()> {
-    print!(rt; " {sample}")
-}
-
-fn print_samples(rt: &impl Print, t: &[u16; 16]) -> io::Result<()> {
-    print!(rt; ":")?;
-    for k in 0..16 {
-        print_sample(rt, t[k])?;
+// Each sample behind a space.
+pub(crate) fn print_samples(rt: &impl Print, samples: &[u16]) -> Result<()> {
+    for sample in samples {
+        print!(rt; " {sample}")?;
     }
-    println!(rt)
+    println!(rt)?;
+    Ok(())
 }
 
-fn print_size(rt: &impl Print, size: u8, found: FilterStrength) -> io::Result<()> {
-    let mut t = step();
-    let answer = sample_filtering(&mut t, 8, size, found.limit, found.blimit, found.thresh);
-    let LineAnswer::Done = answer else {
-        return Ok(());
-    };
-    print_number(rt, "size ", size)?;
-    print_samples(rt, &t)
-}
-
-pub(crate) fn print_line(rt: &impl Print) -> io::Result<()> {
-    let StrengthAnswer::Done(found) = strength_for_level(32, 0) else {
-        return Ok(());
-    };
+pub(crate) fn print_line(rt: &impl Print) -> Result<()> {
+    let found = strength_for_level(32, 0)?;
     println!(rt; "line from p7 to q7, depth 8, level 32 sharpness 0")?;
-    print!(rt; "before")?;
-    print_samples(rt, &step())?;
-    print_size(rt, 0, found)?;
-    print_size(rt, 1, found)?;
-    print_size(rt, 2, found)
+    print!(rt; "before:")?;
+    print_samples(rt, &STEP)?;
+    for size in 0..3 {
+        let mut t = STEP;
+        sample_filtering(&mut t, 8, size, found.limit, found.blimit, found.thresh)?;
+        print!(rt; "size {size}:")?;
+        print_samples(rt, &t)?;
+    }
+    Ok(())
 }

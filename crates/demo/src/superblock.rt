@@ -1,11 +1,10 @@
 // Prints the superblock of the built-in row, 16 by 8 samples with a step between its blocks, before and after a pass.
 use crate::case_s::{MI_COLS, MI_ROWS, made_row};
-use crate::output::print_place;
-use crate::step::print_sample;
-use faults::PassAnswer;
+use crate::step::print_samples;
+use anyhow::Result;
+use base::fault::Fault;
 use pass::superblock_loop_filter_cells;
-use row::RowAnswer;
-use std::io;
+use std::array;
 use window::WindowShape;
 
 // A cell of the row without its level.
@@ -22,25 +21,18 @@ fn sample(k: usize) -> u16 {
 }
 
 fn superblock() -> [u16; 128] {
-    let mut samples = [0u16; 128];
-    for k in 0..128 {
-        samples[k] = sample(k);
-    }
-    samples
+    array::from_fn(sample)
 }
 
-fn print_rows(rt: &impl Print, samples: &[u16; 128]) -> io::Result<()> {
-    for k in 0..128 {
-        print_sample(rt, samples[k])?;
-        if k % 16 == 15 {
-            println!(rt)?;
-        }
+fn print_rows(rt: &impl Print, samples: &[u16; 128]) -> Result<()> {
+    for row in 0..8 {
+        print_samples(rt, &samples[16 * row..16 * row + 16])?;
     }
     Ok(())
 }
 
 // Sharpness 0, depth 8, the vertical edges of plane 0.
-fn filtered(samples: &mut [u16], cells: &[u32]) -> PassAnswer {
+fn filter(samples: &mut [u16], cells: &[u32]) -> Result<(), Fault> {
     let window = WindowShape {
         width: 16,
         height: 8,
@@ -52,38 +44,18 @@ fn filtered(samples: &mut [u16], cells: &[u32]) -> PassAnswer {
     )
 }
 
-fn print_filtered(rt: &impl Print, cells: &[u32]) -> io::Result<()> {
+// The place of the refusal is 64 times the edge and the position along it: edge 2 lies between the blocks.
+pub(crate) fn print_superblock(rt: &impl Print) -> Result<()> {
+    let cells = made_row()?;
+    println!(rt; "the superblock of these blocks, 16 by 8 samples")?;
     let mut samples = superblock();
     println!(rt; "before the pass over its vertical edges")?;
     print_rows(rt, &samples)?;
-    let PassAnswer::Done = filtered(&mut samples, cells) else {
-        return Ok(());
-    };
+    filter(&mut samples, &cells)?;
     println!(rt; "after")?;
-    print_rows(rt, &samples)
-}
-
-// The place is 64 times the edge and the position along it: edge 2 lies between the blocks.
-fn print_refused(rt: &impl Print, cells: &[u32]) -> io::Result<()> {
-    let mut samples = superblock();
-    let PassAnswer::Level(place) = filtered(&mut samples, cells) else {
-        return Ok(());
-    };
-    print_place(
-        rt,
-        "with its second cell without level: refused 14 place ",
-        place,
-    )?;
-    println!(rt)
-}
-
-pub(crate) fn print_superblock(rt: &impl Print) -> io::Result<()> {
-    let mut cells = [0u32; 2];
-    let RowAnswer::Done = made_row(&mut cells) else {
-        return Ok(());
-    };
-    println!(rt; "the superblock of these blocks, 16 by 8 samples")?;
-    print_filtered(rt, &cells)?;
-    cells[1] = WITHOUT_LEVEL;
-    print_refused(rt, &cells)
+    print_rows(rt, &samples)?;
+    if let Err(fault) = filter(&mut superblock(), &[cells[0], WITHOUT_LEVEL]) {
+        println!(rt; "with its second cell without level: {fault}")?;
+    }
+    Ok(())
 }

@@ -1,12 +1,8 @@
 // A record of a pass over bytes, laid out as tests/differential/src/vectors.rs says.
-use crate::byte_samples::{are_after, copy_of};
-use crate::numbers::{at_most, wide, wide32_at};
-use crate::pass_record::{is_answer, numbers_of, window_of};
-use crate::replay::Record;
+use crate::numbers::{is_answer, size32_at};
+use crate::pass_record::{numbers_of, window_of};
+use base::fault::Fault;
 use byte_pass::superblock_loop_filter_bytes;
-use faults::PassAnswer;
-
-pub(crate) const LENGTH: usize = 1448;
 
 // A record has room for so many bytes of cells, from byte 40 on, and of samples before, from byte 168 on. Behind those
 // are as many after.
@@ -14,18 +10,13 @@ const CELL_BYTES: usize = 128;
 
 const SAMPLES: usize = 640;
 
-fn cells_of(record: &Record) -> &[u8] {
-    let all = &record[..];
-    let end = 40 + at_most(wide(record[7]), CELL_BYTES);
-    &all[40..end]
-}
-
-fn pass_answer(record: &Record, samples: &mut [u8]) -> PassAnswer {
+fn pass_answer(record: &[u8; 1448], samples: &mut [u8]) -> Result<(), Fault> {
     let p = numbers_of(record);
+    let cells = usize::from(record[7]).min(CELL_BYTES);
     superblock_loop_filter_bytes(
         samples,
         window_of(record),
-        cells_of(record),
+        &record[40..40 + cells],
         p.sharpness,
         p.bit_depth,
         p.sub_x,
@@ -39,12 +30,15 @@ fn pass_answer(record: &Record, samples: &mut [u8]) -> PassAnswer {
     )
 }
 
-// A refusal leaves the samples, and an accepted pass those that are not lent: all are compared.
-pub(crate) fn is_equal(record: &Record) -> bool {
-    let mut found = copy_of(record);
-    let lent = wide32_at(record, 32);
-    let end = 168 + at_most(lent, SAMPLES);
+// A refusal leaves the samples, and an accepted pass those that are not lent: all are compared. A record that says more than there
+// is room for is different.
+pub(crate) fn is_equal(record: &[u8; 1448]) -> bool {
+    let mut found = *record;
+    let lent = size32_at(record, 32);
+    let end = 168 + lent.min(SAMPLES);
     let answer = pass_answer(record, &mut found[168..end]);
-    let fits = (wide(record[7]) <= CELL_BYTES) & (lent <= SAMPLES);
-    fits & is_answer(record, answer) & are_after(&found, record, 168, SAMPLES)
+    (usize::from(record[7]) <= CELL_BYTES)
+        & (lent <= SAMPLES)
+        & is_answer(answer, record[6], size32_at(record, 36))
+        & (found[168..808] == record[808..1448])
 }

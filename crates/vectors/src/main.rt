@@ -3,7 +3,6 @@
 
 mod byte_line_record;
 mod byte_pass_record;
-mod byte_samples;
 mod edge_record;
 mod levels_record;
 mod line_record;
@@ -14,27 +13,47 @@ mod row_record;
 mod sheet_record;
 mod strength_record;
 
-use replay::{Kind, replay_file, replay_form};
+use replay::replay;
+use std::alloc::Global;
 use std::io;
 use std::rt::Files;
 
 // The same rows and passes, through the forms of the library that take records.
-fn replay_record_forms(rt: &(impl Files + Print)) -> io::Result<()> {
-    replay_form(rt, "rows.bin", ", cell records", Kind::RowRecords)?;
-    replay_form(rt, "passes.bin", ", window record", Kind::PassWindow)?;
-    replay_form(rt, "passes.bin", ", cell records", Kind::PassRecords)
+fn replay_record_forms(rt: &(impl Files + Print), alloc: Global) -> io::Result<()> {
+    replay(
+        rt,
+        alloc,
+        "rows.bin",
+        ", cell records",
+        row_record::is_equal_in_records,
+    )?;
+    replay(
+        rt,
+        alloc,
+        "passes.bin",
+        ", window record",
+        pass_record::is_equal_in_window,
+    )?;
+    replay(
+        rt,
+        alloc,
+        "passes.bin",
+        ", cell records",
+        pass_record::is_equal_in_records,
+    )
 }
 
 fn main(rt: HostRuntime) -> io::Result<()> {
-    replay_file(&rt, "levels.bin", Kind::Levels)?;
-    replay_file(&rt, "frames.bin", Kind::Levels)?;
-    replay_file(&rt, "strength.bin", Kind::Strength)?;
-    replay_file(&rt, "lines.bin", Kind::Line)?;
-    replay_file(&rt, "byte_lines.bin", Kind::ByteLine)?;
-    replay_file(&rt, "rows.bin", Kind::Row)?;
-    replay_file(&rt, "edges.bin", Kind::Edge)?;
-    replay_file(&rt, "passes.bin", Kind::Pass)?;
-    replay_file(&rt, "byte_passes.bin", Kind::BytePass)?;
-    replay_file(&rt, "sheets.bin", Kind::Sheet)?;
-    replay_record_forms(&rt)
+    let alloc = rt.alloc();
+    replay(&rt, alloc, "levels.bin", "", levels_record::is_equal)?;
+    replay(&rt, alloc, "frames.bin", "", levels_record::is_equal)?;
+    replay(&rt, alloc, "strength.bin", "", strength_record::is_equal)?;
+    replay(&rt, alloc, "lines.bin", "", line_record::is_equal)?;
+    replay(&rt, alloc, "byte_lines.bin", "", byte_line_record::is_equal)?;
+    replay(&rt, alloc, "rows.bin", "", row_record::is_equal)?;
+    replay(&rt, alloc, "edges.bin", "", edge_record::is_equal)?;
+    replay(&rt, alloc, "passes.bin", "", pass_record::is_equal)?;
+    replay(&rt, alloc, "byte_passes.bin", "", byte_pass_record::is_equal)?;
+    replay(&rt, alloc, "sheets.bin", "", sheet_record::is_equal)?;
+    replay_record_forms(&rt, alloc)
 }

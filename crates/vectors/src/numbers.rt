@@ -1,62 +1,50 @@
-// Numbers of a record, the lowest byte first. Those that a call takes as a size are wide.
-ghost use Rattle.std.specs.Prelude.{◌<◌, ◌≤◌};
+// Numbers of a record, the lowest byte first, and answers as it has them.
+ghost use Rattle.std.specs.Prelude.{◌+◌, ◌≤◌};
 
-use crate::replay::Record;
+use base::fault::Fault;
 
-pub(crate) fn wide(byte: u8) -> usize {
-    byte as usize
-}
-
-// At most the room, also in a record that says more: so a list never reaches past it.
-pub(crate) fn at_most(length: usize, room: usize) -> usize
-    ensures { result ≤ room }
+pub(crate) fn u16_at<const N: usize>(record: &[u8; N], at: usize) -> u16
+    requires { at + 2 ≤ N }
 {
-    if length < room { length } else { room }
+    u16::from_le_bytes([record[at], record[at + 1]])
 }
 
-pub(crate) fn unsigned16(low: u8, high: u8) -> u16 {
-    high as u16 * 256 + low as u16
+pub(crate) fn i16_at<const N: usize>(record: &[u8; N], at: usize) -> i16
+    requires { at + 2 ≤ N }
+{
+    u16_at(record, at).cast_signed()
 }
 
-fn unsigned32(low: u16, high: u16) -> u32 {
-    high as u32 * 65536 + low as u32
+pub(crate) fn u32_at<const N: usize>(record: &[u8; N], at: usize) -> u32
+    requires { at + 4 ≤ N }
+{
+    u32::from_le_bytes([record[at], record[at + 1], record[at + 2], record[at + 3]])
 }
 
-// In the bits of a signed number !x is -1 - x, which fits where x does.
-fn signed32(bits: u32) -> i32 {
-    if bits < 2147483648 {
-        bits as i32
-    } else {
-        !((4294967295 - bits) as i32)
+pub(crate) fn i32_at<const N: usize>(record: &[u8; N], at: usize) -> i32
+    requires { at + 4 ≤ N }
+{
+    u32_at(record, at).cast_signed()
+}
+
+// Those that a call takes as a size.
+
+pub(crate) fn size16_at<const N: usize>(record: &[u8; N], at: usize) -> usize
+    requires { at + 2 ≤ N }
+{
+    usize::from(u16_at(record, at))
+}
+
+pub(crate) fn size32_at<const N: usize>(record: &[u8; N], at: usize) -> usize
+    requires { at + 4 ≤ N }
+{
+    u32_at(record, at) as usize
+}
+
+// Whether an answer is a refusal with this number and place, or none where both are 0.
+pub(crate) fn is_answer(answer: Result<(), Fault>, number: u8, place: usize) -> bool {
+    match answer {
+        Ok(()) => (number == 0) & (place == 0),
+        Err(fault) => (fault.number() == u32::from(number)) & (fault.place() == place),
     }
-}
-
-pub(crate) fn unsigned16_at(record: &Record, at: usize) -> u16
-    requires { at < 4095 }
-{
-    unsigned16(record[at], record[at + 1])
-}
-
-pub(crate) fn unsigned32_at(record: &Record, at: usize) -> u32
-    requires { at < 4093 }
-{
-    unsigned32(unsigned16_at(record, at), unsigned16_at(record, at + 2))
-}
-
-pub(crate) fn signed32_at(record: &Record, at: usize) -> i32
-    requires { at < 4093 }
-{
-    signed32(unsigned32_at(record, at))
-}
-
-pub(crate) fn wide16_at(record: &Record, at: usize) -> usize
-    requires { at < 4095 }
-{
-    unsigned16_at(record, at) as usize
-}
-
-pub(crate) fn wide32_at(record: &Record, at: usize) -> usize
-    requires { at < 4093 }
-{
-    unsigned32_at(record, at) as usize
 }

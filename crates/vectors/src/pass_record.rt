@@ -1,191 +1,146 @@
 // A record of a pass, laid out as tests/differential/src/vectors.rs says.
 ghost use Rattle.std.specs.Prelude.{◌≤◌};
 
-use crate::numbers::{at_most, unsigned16_at, unsigned32_at, wide, wide16_at, wide32_at};
-use crate::replay::Record;
+use crate::numbers::{is_answer, size16_at, size32_at, u16_at, u32_at};
+use base::fault::Fault;
 use cell_records::{CellRecord, record_of};
-use faults::PassAnswer;
 use pass::superblock_loop_filter_cells;
 use plane_window::numbers::PassNumbers;
 use plane_window::pass_plane;
 use record_replay::pass_front_unchecked;
+use std::array;
 use window::WindowShape;
-
-pub(crate) const LENGTH: usize = 2728;
 
 // A record has room for so many cells and samples.
 const CELLS: usize = 32;
 
 const SAMPLES: usize = 640;
 
-// The form in which the pass is called: over words, over a window record, over cell records.
-#[derive(Clone, Copy)]
-pub(crate) enum Form {
-    Words,
-    Window,
-    Records,
+fn cells_of(record: &[u8; 2728]) -> [u32; CELLS] {
+    array::from_fn(|k| u32_at(record, 40 + 4 * k))
 }
 
-// The lists' lengths. A record that says more than there is room for is different.
-fn are_lengths(record: &Record) -> bool {
-    (wide(record[7]) <= CELLS) & (wide32_at(record, 32) <= SAMPLES)
+// At most the room, also in a record that says more.
+fn lent_cells(record: &[u8; 2728]) -> usize
+    ensures { result ≤ 32 }
+{
+    usize::from(record[7]).min(CELLS)
 }
 
-fn cells_of(record: &Record) -> [u32; CELLS] {
-    let mut out = [0u32; CELLS];
-    for k in 0..CELLS {
-        out[k] = unsigned32_at(record, 40 + 4 * k);
-    }
-    out
-}
-
-fn samples_at(record: &Record, start: usize) -> [u16; SAMPLES]
+fn samples_at(record: &[u8; 2728], start: usize) -> [u16; SAMPLES]
     requires { start ≤ 1448 }
 {
-    let mut out = [0u16; SAMPLES];
-    for k in 0..SAMPLES {
-        out[k] = unsigned16_at(record, start + 2 * k);
-    }
-    out
+    array::from_fn(|k| u16_at(record, start + 2 * k))
 }
 
-pub(crate) fn window_of(record: &Record) -> WindowShape {
+// The same in a record of a pass over bytes.
+
+pub(crate) fn window_of<const N: usize>(record: &[u8; N]) -> WindowShape
+    requires { 40 ≤ N }
+{
     WindowShape {
-        width: wide32_at(record, 16),
-        height: wide32_at(record, 20),
-        stride: wide32_at(record, 24),
-        top: wide32_at(record, 28),
+        width: size32_at(record, 16),
+        height: size32_at(record, 20),
+        stride: size32_at(record, 24),
+        top: size32_at(record, 28),
     }
 }
 
-pub(crate) fn numbers_of(record: &Record) -> PassNumbers {
+pub(crate) fn numbers_of<const N: usize>(record: &[u8; N]) -> PassNumbers
+    requires { 40 ≤ N }
+{
     PassNumbers {
         sharpness: record[0],
         bit_depth: record[1],
         sub_x: record[2],
         sub_y: record[3],
-        mi_cols: wide16_at(record, 8),
-        mi_rows: wide16_at(record, 10),
-        mi_row: wide16_at(record, 12),
-        mi_col: wide16_at(record, 14),
+        mi_cols: size16_at(record, 8),
+        mi_rows: size16_at(record, 10),
+        mi_row: size16_at(record, 12),
+        mi_col: size16_at(record, 14),
         plane: record[4],
         pass: record[5],
     }
 }
 
-fn words_answer(record: &Record, samples: &mut [u16]) -> PassAnswer {
-    let cells = cells_of(record);
-    let lent = at_most(wide(record[7]), CELLS);
-    let p = numbers_of(record);
-    superblock_loop_filter_cells(
-        samples,
-        window_of(record),
-        &cells[0..lent],
-        p.sharpness,
-        p.bit_depth,
-        p.sub_x,
-        p.sub_y,
-        p.mi_cols,
-        p.mi_rows,
-        p.mi_row,
-        p.mi_col,
-        p.plane,
-        p.pass,
-    )
+// Whether a form of the pass does to the record's samples what it says. A refusal leaves the samples, and an accepted pass those
+// that are not lent: all are compared. A record that says more than there is room for is different.
+fn is_equal_by<F: FnOnce(&mut [u16]) -> Result<(), Fault>>(record: &[u8; 2728], pass: F) -> bool
+    requires { F.IsAlwaysCallable pass }
+{
+    let mut samples = samples_at(record, 168);
+    let lent = size32_at(record, 32);
+    let end = lent.min(SAMPLES);
+    let answer = pass(&mut samples[..end]);
+    (usize::from(record[7]) <= CELLS)
+        & (lent <= SAMPLES)
+        & is_answer(answer, record[6], size32_at(record, 36))
+        & (samples == samples_at(record, 1448))
 }
 
-fn window_answer(record: &Record, samples: &mut [u16]) -> PassAnswer {
+pub(crate) fn is_equal(record: &[u8; 2728]) -> bool {
     let cells = cells_of(record);
-    let lent = at_most(wide(record[7]), CELLS);
+    let lent = &cells[..lent_cells(record)];
+    let p = numbers_of(record);
+    is_equal_by(record, |samples| {
+        superblock_loop_filter_cells(
+            samples,
+            window_of(record),
+            lent,
+            p.sharpness,
+            p.bit_depth,
+            p.sub_x,
+            p.sub_y,
+            p.mi_cols,
+            p.mi_rows,
+            p.mi_row,
+            p.mi_col,
+            p.plane,
+            p.pass,
+        )
+    })
+}
+
+pub(crate) fn is_equal_in_window(record: &[u8; 2728]) -> bool {
+    let cells = cells_of(record);
+    let lent = &cells[..lent_cells(record)];
     let w = window_of(record);
-    pass_plane(
-        samples,
-        &cells[0..lent],
-        w.width,
-        w.height,
-        w.stride,
-        w.top,
-        numbers_of(record),
-    )
+    is_equal_by(record, |samples| {
+        pass_plane(
+            samples,
+            lent,
+            w.width,
+            w.height,
+            w.stride,
+            w.top,
+            numbers_of(record),
+        )
+    })
 }
 
 // No record holds a word's zero bits. For a word that 11 refuses because one is set stands a record with
 // a field too large, which 11 refuses at the same place. Any other word has a record of its own.
 fn cell_record(word: u32) -> CellRecord {
-    let mut own = record_of(word);
-    if word % 4096 != 0 {
-        own.width0 = 4;
+    let own = record_of(word);
+    if word % 4096 == 0 {
+        own
+    } else {
+        CellRecord { width0: 4, ..own }
     }
-    own
 }
 
-fn records_of(record: &Record) -> [CellRecord; CELLS] {
-    let mut out = [cell_record(0); CELLS];
-    for k in 0..CELLS {
-        out[k] = cell_record(unsigned32_at(record, 40 + 4 * k));
-    }
-    out
-}
-
-fn records_answer(record: &Record, samples: &mut [u16]) -> PassAnswer {
-    let lent = at_most(wide(record[7]), CELLS);
+pub(crate) fn is_equal_in_records(record: &[u8; 2728]) -> bool {
     let w = window_of(record);
-    pass_front_unchecked(
-        samples,
-        records_of(record),
-        lent,
-        w.width,
-        w.height,
-        w.stride,
-        w.top,
-        numbers_of(record),
-    )
-}
-
-fn pass_answer(record: &Record, samples: &mut [u16], form: Form) -> PassAnswer {
-    match form {
-        Form::Words => words_answer(record, samples),
-        Form::Window => window_answer(record, samples),
-        Form::Records => records_answer(record, samples),
-    }
-}
-
-fn are_same(a: &[u16; SAMPLES], b: &[u16; SAMPLES]) -> bool {
-    for k in 0..SAMPLES {
-        if a[k] != b[k] {
-            return false;
-        }
-    }
-    true
-}
-
-fn is_refusal(record: &Record, number: u8, place: usize) -> bool {
-    (number == record[6]) & (place == wide32_at(record, 36))
-}
-
-pub(crate) fn is_answer(record: &Record, answer: PassAnswer) -> bool {
-    match answer {
-        PassAnswer::Done => is_refusal(record, 0, 0),
-        PassAnswer::Sharpness => is_refusal(record, 1, 0),
-        PassAnswer::Depth => is_refusal(record, 2, 0),
-        PassAnswer::Subsampling => is_refusal(record, 3, 0),
-        PassAnswer::FrameSize => is_refusal(record, 4, 0),
-        PassAnswer::Row => is_refusal(record, 5, 0),
-        PassAnswer::Short => is_refusal(record, 7, 0),
-        PassAnswer::Plane => is_refusal(record, 9, 0),
-        PassAnswer::Column => is_refusal(record, 10, 0),
-        PassAnswer::Cell(place) => is_refusal(record, 11, place),
-        PassAnswer::Window => is_refusal(record, 12, 0),
-        PassAnswer::Sample(place) => is_refusal(record, 13, place),
-        PassAnswer::Level(place) => is_refusal(record, 14, place),
-    }
-}
-
-// A refusal leaves the samples, and an accepted pass those that are not lent: all are compared.
-pub(crate) fn is_equal(record: &Record, form: Form) -> bool {
-    let mut samples = samples_at(record, 168);
-    let after = samples_at(record, 1448);
-    let lent = at_most(wide32_at(record, 32), SAMPLES);
-    let answer = pass_answer(record, &mut samples[0..lent], form);
-    are_lengths(record) & is_answer(record, answer) & are_same(&samples, &after)
+    is_equal_by(record, |samples| {
+        pass_front_unchecked(
+            samples,
+            cells_of(record).map(cell_record),
+            lent_cells(record),
+            w.width,
+            w.height,
+            w.stride,
+            w.top,
+            numbers_of(record),
+        )
+    })
 }

@@ -1,21 +1,16 @@
 // A record of a level's strength, laid out as tests/differential/src/vectors.rs says.
-use crate::replay::Record;
-use strength::{FilterStrength, StrengthAnswer, strength_for_level};
+use strength::strength_for_level;
 
-pub(crate) const LENGTH: usize = 6;
-
-fn is_strength(record: &Record, found: FilterStrength) -> bool {
-    (record[2] == 0)
-        & (found.lvl == record[1])
-        & (found.limit == record[3])
-        & (found.blimit == record[4])
-        & (found.thresh == record[5])
-}
-
-pub(crate) fn is_equal(record: &Record) -> bool {
+pub(crate) fn is_equal(record: &[u8; 6]) -> bool {
+    let number = u32::from(record[2]);
     match strength_for_level(record[1], record[0]) {
-        StrengthAnswer::Done(found) => is_strength(record, found),
-        StrengthAnswer::Sharpness => record[2] == 1,
-        StrengthAnswer::Level => record[2] == 6,
+        Ok(found) => {
+            (number == 0)
+                & (found.lvl == record[1])
+                & (found.limit == record[3])
+                & (found.blimit == record[4])
+                & (found.thresh == record[5])
+        }
+        Err(fault) => fault.number() == number,
     }
 }
