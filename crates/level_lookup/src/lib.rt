@@ -5,16 +5,9 @@ ghost use Rattle.std.specs.Prelude.{◌≡◌};
 ghost use Rattle.level_lookup.specs.LevelLookup.{zero_levels, lookup_of};
 
 // LvlLookup[ segment ][ ref ][ mode ], flat: at segment times 8 plus reference times 2 plus mode type.
-#[derive(Clone, Copy)]
+#[derive(Clone, Copy, Debug, PartialEq, Eq)]
 pub struct LvlLookup {
     pub levels: [u8; 64],
-}
-
-// What stands in a table: a level, or nothing where there is no such entry.
-#[derive(Clone, Copy)]
-pub enum Lookup {
-    Found(u8),
-    Nothing,
 }
 
 impl LvlLookup {
@@ -29,34 +22,29 @@ impl LvlLookup {
     pub fn zeros() -> Self
         ensures { result.levels ≡ zero_levels }
     {
-        LvlLookup { levels: [0u8; 64] }
+        LvlLookup { levels: [0; 64] }
     }
 
-    pub fn get(self, segment_id: usize, ref_frame: i32, mode: usize) -> Lookup
+    pub fn get(self, segment_id: usize, ref_frame: i32, mode: usize) -> Option<u8>
         ensures { result ≡ lookup_of self.levels segment_id ref_frame mode }
     {
-        let levels = self.levels;
-        find_level(&levels, segment_id, ref_frame, mode)
+        find_level(&self.levels, segment_id, ref_frame, mode)
     }
 }
 
 // The entry of any segment, reference and mode type, of a table that is lent.
-pub fn find_level(levels: &[u8; 64], segment_id: usize, ref_frame: i32, mode: usize) -> Lookup
+pub fn find_level(levels: &[u8; 64], segment_id: usize, ref_frame: i32, mode: usize) -> Option<u8>
     ensures { result ≡ lookup_of levels.now segment_id ref_frame mode }
 {
-    if LvlLookup::MAX_SEGMENTS <= segment_id {
-        return Lookup::Nothing;
+    let Ok(reference) = usize::try_from(ref_frame) else {
+        return None;
+    };
+    if LvlLookup::MAX_SEGMENTS <= segment_id
+        || LvlLookup::MAX_MODE_LF_DELTAS <= mode
+        || LvlLookup::MAX_REF_FRAMES <= reference
+    {
+        return None;
     }
-    if LvlLookup::MAX_MODE_LF_DELTAS <= mode {
-        return Lookup::Nothing;
-    }
-    if ref_frame < 0 {
-        return Lookup::Nothing;
-    }
-    let r = ref_frame as usize;
-    if LvlLookup::MAX_REF_FRAMES <= r {
-        return Lookup::Nothing;
-    }
-    let at = segment_id * 8 + r * 2 + mode;
-    Lookup::Found(levels[at])
+    let at = segment_id * 8 + reference * 2 + mode;
+    Some(levels[at])
 }
