@@ -1,7 +1,6 @@
 -- What the header's records say: which segmentation features are active, and which deltas hold.
 -- Assumes nothing.
-use Rattle.std.specs.Prelude.{Bool, false, cond, ◌&&◌, [], ◌∷◌, ℕ, ◌+◌, ◌*◌, ltb, ℤ, pos, neg_ℤ, get_or}
-use Rattle.frame_header.specs.declared.Delta.{Delta}
+use Rattle.std.specs.Prelude.{Bool, cond, ◌&&◌, [], ◌∷◌, ℕ, ◌+◌, ◌*◌, ltb, ℤ, pos, neg_ℤ, get_or, Option, Some, None, is_some, unwrap_or}
 use Rattle.frame_header.specs.declared.LoopFilterParams.{LoopFilterParams}
 use Rattle.frame_header.specs.declared.SegmentationParams.{SegmentationParams}
 use Rattle.frame_header.specs.declared.Deltas.{Deltas}
@@ -10,21 +9,25 @@ use Rattle.frame_header.specs.declared.Deltas.{Deltas}
 abbrev pub feature_at : ℕ → ℕ → ℕ
 feature_at segment feature = segment * 4 + feature
 
--- seg_feature_active( feature ): 6.4.9. Segments above 7 and features above 3 do not exist, and are not active.
+-- a segment's feature, where segmentation is enabled. Segments above 7 and features above 3 do not exist, and are not active.
+unfoldable pub active_feature : SegmentationParams → ℕ → ℕ → Option ℤ
+active_feature seg segment feature =
+    cond (ltb segment 8 && ltb feature 4 && seg.enabled) (get_or seg.features (feature_at segment feature) None) None
+
+-- seg_feature_active( feature ): 6.4.9
 unfoldable pub seg_feature_active : SegmentationParams → ℕ → ℕ → Bool
-seg_feature_active seg segment feature =
-    ltb segment 8 && ltb feature 4 && (seg.enabled && get_or seg.feature_enabled (feature_at segment feature) false)
+seg_feature_active seg segment feature = is_some (active_feature seg segment feature)
 
 -- FeatureData[ segment ][ feature ]
 abbrev pub feature_data : SegmentationParams → ℕ → ℕ → ℤ
-feature_data seg segment feature = get_or seg.feature_data (feature_at segment feature) (pos 0)
+feature_data seg segment feature = unwrap_or (get_or seg.features (feature_at segment feature) None) (pos 0)
 
 -- the delta that holds: the header's, or where that is absent the one that held before
-unfoldable pub resolved_delta : ℤ → Delta → ℤ
-resolved_delta before d = cond d.present d.value before
+abbrev pub resolved_delta : ℤ → Option ℤ → ℤ
+resolved_delta before d = unwrap_or d before
 
-abbrev pub absent : Delta
-absent = record { present = false; value = pos 0 }
+abbrev pub absent : Option ℤ
+absent = None
 
 -- loop_filter_ref_deltas and loop_filter_mode_deltas
 unfoldable pub resolved_from : Deltas → LoopFilterParams → Deltas
