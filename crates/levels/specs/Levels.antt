@@ -1,16 +1,17 @@
 -- The level table of a frame: loop_filter_frame_init( ), 8.8.1.
 -- Assumes nothing.
-use Rattle.std.specs.Prelude.{cond, not, ◌&&◌, List, ℕ, ◌+◌, ◌/◌, ◌%◌, eqb, ltb, ℤ, pos, nat_abs, ◌+ℤ◌, get_or}
+use Rattle.std.specs.Prelude.{cond, not, ◌&&◌, List, ℕ, ◌+◌, ◌/◌, ◌%◌, eqb, ltb, ℤ, pos, nat_abs, ◌+ℤ◌, get_or, Result, Ok, Err}
 use Rattle.base.specs.Filled.{filled}
 use Rattle.base.specs.Notation.{clip3, shl_z}
-use Rattle.base.specs.Outcome.{Outcome, accepted, refuse, Returned}
+use Rattle.base.specs.Fault.{number_of, place_of}
+use Rattle.base.specs.Outcome.{Outcome, accepted, refused, refuse}
+use Rattle.base.specs.declared.fault.Fault.{Fault}
 use Rattle.frame_header.specs.Params.{seg_feature_active, feature_data, resolved_from, default_deltas}
 use Rattle.frame_header.specs.declared.LoopFilterParams.{LoopFilterParams}
 use Rattle.frame_header.specs.declared.SegmentationParams.{SegmentationParams}
 use Rattle.frame_header.specs.declared.Deltas.{Deltas}
 use Rattle.level_lookup.specs.LevelLookup.{zero_levels}
-use Rattle.levels.specs.declared.loop_filter.LevelAnswer.{LevelAnswer}
-use Rattle.levels.specs.declared.loop_filter.LevelAnswer.TheVariants.{Done, Level}
+use Rattle.level_lookup.specs.declared.LvlLookup.{LvlLookup}
 
 -- ---- the standard's process
 
@@ -67,7 +68,7 @@ frame_init lf seg deltas = refuse (ltb 63 lf.level) 6 0 (accepted (filled (place
 unfoldable pub level_table : LoopFilterParams → SegmentationParams → Outcome (List ℕ)
 level_table lf seg = frame_init lf seg (resolved_from default_deltas lf)
 
--- document 01's number and place for each answer
-abbrev pub returned_of : LevelAnswer → Returned
-returned_of Done = record { number = 0; place = 0 }
-returned_of Level = record { number = 6; place = 0 }
+-- what the answer with a table comes to
+abbrev pub table_outcome : Result LvlLookup Fault → Outcome (List ℕ)
+table_outcome (Ok table) = accepted table.levels
+table_outcome (Err e) = refused (number_of e) (place_of e)

@@ -1,35 +1,24 @@
-use borrow.Author.Tests.{eq-eqb, ne_eqb}
-use native.Mathlib.Omega.{arith}
-use lib.IntN.{+ℤ_assoc}
-use mir.Syntax.{w8, w32}
-use Rattle.levels.specs.Levels.{intra_lvl, inter_lvl}
+use Rattle.std.proofs.Common.{◌≡◌, ◌∙◌, ap, ℤ, to_z, of_z, ◌<◌, ◌^◌, ◌+ℤ◌, pos, get_or, w8, w32, arith, rules, to_z-of_z}
+use Rattle.std.specs.Int.Signed.{mag}
+use mir.Val.{SFits}
+use Rattle.base.specs.Notation.{shl_z}
+use Rattle.base.specs.NotationLaws.{mag_add}
 use Rattle.base.specs.Machine.{back}
+use Rattle.levels.specs.Levels.{clipped_level, n_shift}
+use Rattle.levels.proofs.LevelLaws.{delta_sum}
 use Rattle.levels.proofs.loop_filter.delta_level.Goals as goal
 
-pub clipped_sum-requires : goal.clipped_sum-requires
-clipped_sum-requires c = rw (back w32 c.scaled-of_reference.type_inv) (omega (arith, c.scaled-of_reference.ensures))
-
-pub returns-then-reference-eq0 : goal.returns-then-reference-eq0
-unfolding intra_lvl
-returns-then-reference-eq0 c =
-    let of-reference = rw (back w8 c.scaled-arg-1.given) at c.scaled-of_reference.ensures.0 in
-    rw (eq-eqb _ _ c.if-reference-eq0.true)
-    (rw (back w32 c.scaled-of_reference.type_inv, of-reference, c.if-reference-eq0.true) at c.clipped_sum.ensures.0)
-
-pub delta_sum-requires : goal.delta_sum-requires
-delta_sum-requires c =
-    rw (back w32 c.scaled-of_reference.type_inv, back w32 c.scaled-of_mode.type_inv)
-    (c.scaled-of_reference.ensures.1, c.scaled-of_mode.ensures.1)
-
-pub clipped_sum-requires-2 : goal.clipped_sum-requires-2
-clipped_sum-requires-2 c = rw (back w32 c.delta_sum.type_inv) (omega (arith, c.delta_sum.ensures))
-
 pub returns : goal.returns
-unfolding inter_lvl
 returns c =
     let a = c.scaled-of_reference in
-    let of-reference = rw (back w8 c.scaled-arg-1.given) at a.ensures.0 in
-    let of-mode = rw (back w8 c.scaled-arg-2-1.given) at c.scaled-of_mode.ensures.0 in
-    let both = rw (back w32 a.type_inv, back w32 c.scaled-of_mode.type_inv, of-reference, of-mode) at c.delta_sum.ensures.0 in
-    rw (ne_eqb _ _ c.if-reference-eq0.false, +ℤ_assoc)
-    (rw (back w32 c.delta_sum.type_inv, both) at c.clipped_sum-2.ensures.0)
+    let b = c.scaled-of_mode in
+    let f : SFits w8 (get_or c.args.deltas.refs c.args.reference (pos 0)) = search rules in
+    let g : SFits w8 (get_or c.args.deltas.modes c.args.mode (pos 0)) = search rules in
+    let of_reference = rw (to_z-of_z f) at a.ensures.0 in
+    let of_mode = rw (to_z-of_z g) at b.ensures.0 in
+    let small : mag (a.result +ℤ b.result) < 2 ^ 31 = omega (arith, mag_add a.result b.result a.ensures.1 b.ensures.1) in
+    let sum : to_z w32 (of_z w32 (to_z w32 (of_z w32 a.result) +ℤ to_z w32 (of_z w32 b.result))) ≡ a.result +ℤ b.result = rw (back w32 {z = a.result} a.type_inv, back w32 {z = b.result} b.type_inv) (back w32 small) in
+    let both : a.result +ℤ b.result ≡ shl_z (get_or c.args.deltas.refs c.args.reference (pos 0)) (n_shift c.args.lf) +ℤ shl_z (get_or c.args.deltas.modes c.args.mode (pos 0)) (n_shift c.args.lf) = rw (of_reference, of_mode) in
+    c.clipped_sum-2.ensures.0
+    ∙ ap (λ (z : ℤ). clipped_level (pos c.args.lvl +ℤ z)) (sum ∙ both)
+    ∙ delta_sum c.args.lf c.args.deltas c.args.lvl c.args.reference c.args.mode c.if-reference-eq0.false
