@@ -2,10 +2,8 @@
 -- Assumes nothing.
 use Rattle.std.specs.Prelude.{cond, ◌||◌, ℕ, ◌+◌, ◌-◌, ◌*◌, ◌/◌, ◌^◌, max, eqb, ltb, pos, nat_abs}
 use Rattle.base.specs.Notation.{clip3}
-use Rattle.base.specs.Outcome.{Outcome, accepted, refused, refuse}
+use Rattle.base.specs.Outcome.{Outcome, accepted, refuse}
 use Rattle.strength.specs.declared.FilterStrength.{FilterStrength}
-use Rattle.strength.specs.declared.StrengthAnswer.{StrengthAnswer}
-use Rattle.strength.specs.declared.StrengthAnswer.TheVariants.{Done, Sharpness, Level}
 
 -- modeType: 1 for NEARESTMV, NEARMV and NEWMV
 unfoldable pub mode_type : ℕ → ℕ
@@ -31,9 +29,3 @@ strength_of lvl sharpness =
 unfoldable pub strength_for : ℕ → ℕ → Outcome FilterStrength
 strength_for lvl sharpness =
     refuse (ltb 7 sharpness) 1 0 (refuse (ltb 63 lvl) 6 0 (accepted (strength_of lvl sharpness)))
-
--- document 01's number and place, or the values, for each answer
-abbrev pub outcome_of : StrengthAnswer → Outcome FilterStrength
-outcome_of (Done s) = accepted s
-outcome_of Sharpness = refused 1 0
-outcome_of Level = refused 6 0

@@ -2,11 +2,13 @@
 #![tactic(auto)]
 
 ghost use Rattle.std.specs.Prelude.{◌≡◌, ◌≤◌};
-ghost use Rattle.strength.specs.Strength.{mode_type, strength_of, strength_for, outcome_of};
+ghost use Rattle.base.specs.Fault.{outcome_of};
+ghost use Rattle.strength.specs.Strength.{mode_type, strength_of, strength_for};
 ghost use Rattle.strength.specs.StrengthLaws.{Limits};
 
 mod limits;
 
+use base::fault::Fault;
 use limits::LIMITS;
 
 pub const NEARESTMV: u8 = 10;
@@ -18,7 +20,7 @@ pub const ZEROMV: u8 = 12;
 pub const NEWMV: u8 = 13;
 
 // What the line filter is set by.
-#[derive(Clone, Copy)]
+#[derive(Clone, Copy, Debug, PartialEq, Eq)]
 pub struct FilterStrength {
     pub lvl: u8,
     pub limit: u8,
@@ -26,23 +28,12 @@ pub struct FilterStrength {
     pub thresh: u8,
 }
 
-// The strength, or the refusal of a sharpness above 7 or a level above 63.
-#[derive(Clone, Copy)]
-pub enum StrengthAnswer {
-    Done(FilterStrength),
-    Sharpness,
-    Level,
-}
-
 // Takes any mode: 1 for those that predict a motion vector.
+#[tactic(auto, unfolding(crate::specs::Strength::mode_type))]
 pub fn mode_to_mode_type(mode: u8) -> usize
     ensures { result ≡ mode_type mode }
 {
-    if (mode == NEARESTMV) | (mode == NEARMV) | (mode == NEWMV) {
-        1
-    } else {
-        0
-    }
+    usize::from(matches!(mode, NEARESTMV | NEARMV | NEWMV))
 }
 
 // A caller with many levels takes the limits once: the compiler lays a constant array on the stack where it is read.
@@ -66,15 +57,16 @@ pub fn strength_by_unchecked(limits: &[u8; 512], lvl: u8, sharpness: u8) -> Filt
     }
 }
 
-// Takes any level and any sharpness.
-pub fn strength_for_level(lvl: u8, sharpness: u8) -> StrengthAnswer
+// Takes any level and any sharpness. Of two refusals the lower number.
+#[tactic(auto, unfolding(crate::specs::Strength::strength_for))]
+pub fn strength_for_level(lvl: u8, sharpness: u8) -> Result<FilterStrength, Fault>
     ensures { outcome_of result ≡ strength_for lvl sharpness }
 {
     if 7 < sharpness {
-        return StrengthAnswer::Sharpness;
+        return Err(Fault::Sharpness);
     }
     if 63 < lvl {
-        return StrengthAnswer::Level;
+        return Err(Fault::Level(0));
     }
-    StrengthAnswer::Done(strength_by_unchecked(&limits_table(), lvl, sharpness))
+    Ok(strength_by_unchecked(&limits_table(), lvl, sharpness))
 }
