@@ -1,11 +1,12 @@
 -- The fetched words of a pass tell what its cells decide: the keys, and the first place without level.
 -- Assumes nothing.
-use Rattle.std.specs.Prelude.{◌≡◌, refl, Bool, List, ℕ, ◌+◌, ◌*◌, ◌/◌, ◌%◌, ◌≤◌, ◌<◌, length, replicate}
+use Rattle.std.specs.Prelude.{◌≡◌, refl, Bool, List, ℕ, ◌+◌, ◌*◌, ◌/◌, ◌%◌, ◌≤◌, ◌<◌, length, replicate, true, false, cond, Some, None, T}
 use Rattle.std.proofs.Math.Path.{sym}
-use Rattle.std.proofs.Common.{ap, ◌∙◌}
+use Rattle.std.proofs.Common.{ap, ◌∙◌, subst}
+use Rattle.std.proofs.Math.Decide.{dec_lt}
 use native.Mathlib.Omega.{arith}
-use Rattle.base.specs.First.{first}
-use Rattle.base.specs.FirstLaws.{first_same}
+use Rattle.base.specs.First.{first, found, first_found, found_none, found-false, First, first_is, first_small}
+use Rattle.base.specs.FirstLaws.{first_same, found_same}
 use Rattle.decisions.specs.Decision.{levelless, cell_place}
 use Rattle.decisions.specs.LevellessLaws.{levelless_at_lem, first_cells}
 use Rattle.geometry.specs.Frame.{cells_from}
@@ -16,24 +17,57 @@ use Rattle.pass_edges.specs.PassEdges.{along_sub, edge_count, cell_start}
 use Rattle.pass_edges.specs.PassEdgesLaws.{cell_first}
 use Rattle.positions.specs.Positions.{Placed}
 use Rattle.keys.specs.Keys.{Told}
-use Rattle.keys.proofs.KeysLaws.{edge_pairs, lack_by_lem, word_at, keys_by, lacks_by}
+use Rattle.keys.proofs.KeysLaws.{same_false, edge_pairs, lack_by_lem, word_at, keys_by, lacks_by}
 use Rattle.keys.specs.PlainKeys.{turned_of, pairs, lack_at, place_by, fetched, PlainTold}
-use Rattle.keys.specs.declared.Keys.{Keys}
+use Rattle.keys.specs.declared.edge_keys.Keys.{Keys}
 
 turned_paired : (s : Superblock) (pass : Pass) (chroma : Bool) → (turned_of s pass chroma).paired ≡ along_sub s pass
 unfolding turned_of
 turned_paired s Vertical chroma = refl
 turned_paired s Horizontal chroma = refl
 
+-- the first positions of the cells of n edges, and all their positions
+found_cells : (s : Superblock) (pass : Pass) (chroma : Bool) (cells : List ℕ) (n : ℕ)
+    → found (λ k. levelless s pass chroma cells (cell_place (along_sub s pass) k)) (8 * n) ≡ found (levelless s pass chroma cells) (64 * n)
+found_cells s pass chroma cells n = same_false _ _ some none
+  where
+    test : ℕ → Bool
+    test = levelless s pass chroma cells
+
+    at : ℕ → ℕ
+    at = cell_place (along_sub s pass)
+
+    below : (sub : Bool) (k : ℕ) → k < 8 * n → cell_place sub k < 64 * n
+    below true k h = omega arith
+    below false k h = omega arith
+
+    some : found test (64 * n) ≡ false → found (λ k. test (at k)) (8 * n) ≡ false
+    some e = found_none (λ k. test (at k)) (8 * n) (λ k h. found-false test (64 * n) e (at k) (below (along_sub s pass) k h))
+
+    none : found (λ k. test (at k)) (8 * n) ≡ false → found test (64 * n) ≡ false
+    none e = cases (found test (64 * n)) refl
+      where
+        cell : ℕ
+        cell = first (λ k. test (at k)) (8 * n)
+
+        end : (sub : Bool) → cell_place sub (8 * n) ≡ 64 * n
+        end true = omega arith
+        end false = omega arith
+
+        go : First test 0 (64 * n) (at cell) → Dec (cell < 8 * n) → found test (64 * n) ≡ false
+        go f (yes l) = absurd (subst T (sym f.holds ∙ found-false (λ k. test (at k)) (8 * n) e cell l) tt)
+        go f (no l) =
+            let small = first_small (λ k. test (at k)) 0 (8 * n) in
+            let all : cell ≡ 8 * n = omega arith in
+            let to = f.to in
+            absurd (omega (arith, end (along_sub s pass), ap at all))
+
+        cases : (b : Bool) → found test (64 * n) ≡ b → found test (64 * n) ≡ false
+        cases false d = d
+        cases true d = go (subst (First test 0 (64 * n)) (first_cells s pass chroma cells n) (first_is test (64 * n) d)) (dec_lt cell (8 * n))
+
 module _ (s : Superblock) (pass : Pass) (chroma : Bool) (cells : List ℕ) (p : Placed s) (lent : cells_from s.row s.cols s.rows ≤ length cells)
     (words : List ℕ) (are : words ≡ fetched (turned_of s pass chroma) cells (replicate 64 0)) where
-  pub told : (r : Keys) → PlainTold (turned_of s pass chroma) words r → Told s pass chroma cells r
-  told r plain = (
-    plain.0 ∙ keys_by s pass chroma cells p lent words are 0 (omega arith),
-    plain.1 ∙ keys_by s pass chroma cells p lent words are 1 (omega arith),
-    plain.2 ∙ lacks_by s pass chroma cells p lent words are,
-  )
-
   -- the test of a cell is that at its first position
   lack_at_lem : (k : ℕ) → k < 8 * edge_count s pass → lack_at (turned_of s pass chroma) words k ≡ levelless s pass chroma cells (cell_place (along_sub s pass) k)
   unfolding lack_at
@@ -46,7 +80,7 @@ module _ (s : Superblock) (pass : Pass) (chroma : Bool) (cells : List ℕ) (p : 
       ∙ (rw (word_at s pass chroma cells p lent words are at (omega (arith, edge_pairs s pass chroma)), cell)
       (rw (edge, cell) at (lack_by_lem s pass chroma cells p lent at (k / 8 % 2) (omega arith) (omega arith)))))
 
-  pub first_told : place_by (turned_of s pass chroma) words ≡ first (levelless s pass chroma cells) (64 * edge_count s pass)
+  first_told : cell_place (turned_of s pass chroma).paired (first (lack_at (turned_of s pass chroma) words) (16 * pairs (turned_of s pass chroma).sub)) ≡ first (levelless s pass chroma cells) (64 * edge_count s pass)
   first_told =
       let t = turned_of s pass chroma in
       let count : 16 * pairs t.sub ≡ 8 * edge_count s pass = omega (arith, edge_pairs s pass chroma) in
@@ -54,3 +88,24 @@ module _ (s : Superblock) (pass : Pass) (chroma : Bool) (cells : List ℕ) (p : 
       ∙ ap (λ (n : ℕ). cell_place (along_sub s pass) (first (lack_at t words) n)) count
       ∙ ap (cell_place (along_sub s pass)) (first_same (lack_at t words) _ (8 * edge_count s pass) lack_at_lem)
       ∙ sym (first_cells s pass chroma cells (edge_count s pass))
+
+  -- a cell lacks where a position does
+  found_told : found (lack_at (turned_of s pass chroma) words) (16 * pairs (turned_of s pass chroma).sub) ≡ found (levelless s pass chroma cells) (64 * edge_count s pass)
+  found_told =
+      let t = turned_of s pass chroma in
+      let count : 16 * pairs t.sub ≡ 8 * edge_count s pass = omega (arith, edge_pairs s pass chroma) in
+      ap (λ (n : ℕ). found (lack_at t words) n) count ∙ found_same (lack_at t words) _ (8 * edge_count s pass) lack_at_lem ∙ found_cells s pass chroma cells (edge_count s pass)
+
+  place_told : place_by (turned_of s pass chroma) words ≡ first_found (levelless s pass chroma cells) (64 * edge_count s pass)
+  place_told = rw (found_told, first_told)
+
+  pub told : (r : Keys) → PlainTold (turned_of s pass chroma) words r → Told s pass chroma cells r
+  told r plain = (
+    plain.0 ∙ keys_by s pass chroma cells p lent words are 0 (omega arith),
+    plain.1 ∙ keys_by s pass chroma cells p lent words are 1 (omega arith),
+    plain.2 ∙ (rw (lacks_by s pass chroma cells p lent words are, place_told) (twice (found (levelless s pass chroma cells) (64 * edge_count s pass)) (first (levelless s pass chroma cells) (64 * edge_count s pass)))),
+  )
+    where
+      twice : (b : Bool) (x : ℕ) → cond b (cond b (Some x) None) None ≡ cond b (Some x) None
+      twice true x = refl
+      twice false x = refl

@@ -1,6 +1,6 @@
 -- Keys by plain numbers are the keys of the decisions, and a level lacks where a position decides so.
 -- Assumes nothing.
-use Rattle.std.specs.Prelude.{◌≡◌, Bool, ◌||◌, List, ℕ, ◌+◌, ◌*◌, ◌/◌, ◌%◌, ◌≤◌, ◌<◌, ltb, length, get_or, replicate}
+use Rattle.std.specs.Prelude.{◌≡◌, Bool, ◌||◌, List, ℕ, ◌+◌, ◌*◌, ◌/◌, ◌%◌, ◌≤◌, ◌<◌, length, get_or, replicate}
 use Rattle.std.proofs.Math.Path.{refl, sym, ap}
 use Rattle.std.proofs.Common.{◌∙◌, inr, zero-add, arith, ext_get_or, take_all}
 use Rattle.std.proofs.Math.Bool.{true, false}
@@ -83,7 +83,7 @@ abbrev lacks_pair : Superblock → Pass → (chroma : Bool) (cells : List ℕ) (
 lacks_pair s pass chroma cells k = lacks_in s pass chroma cells 0 k || lacks_in s pass chroma cells 1 k
 
 -- two tests, of which one does not hold where the other does not
-same_false : (a b : Bool) → (b ≡ false → a ≡ false) → (a ≡ false → b ≡ false) → a ≡ b
+pub same_false : (a b : Bool) → (b ≡ false → a ≡ false) → (a ≡ false → b ≡ false) → a ≡ b
 same_false true true f g = refl
 same_false true false f g = f refl
 same_false false true f g = sym (g refl)

@@ -1,3 +1,4 @@
 pub mod EdgeLimitsLaws
 pub mod KeysLaws
 pub mod FetchedLaws
+pub mod KeyedLaws

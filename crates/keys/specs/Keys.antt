@@ -2,13 +2,13 @@
 -- Assumes nothing.
 use Rattle.std.specs.Prelude.{◌≡◌, Bool, cond, ◌&&◌, List, ℕ, ◌+◌, ◌*◌, ◌/◌, ◌%◌, ltb}
 use Rattle.base.specs.Filled.{table}
-use Rattle.base.specs.First.{found}
+use Rattle.base.specs.First.{first_found}
 use Rattle.decisions.specs.Decision.{decision, levelless}
 use Rattle.decisions.specs.declared.Decision.{Decision}
 use Rattle.geometry.specs.declared.Pass.{Pass}
 use Rattle.geometry.specs.declared.Superblock.{Superblock}
 use Rattle.pass_edges.specs.PassEdges.{cell_start, edge_count}
-use Rattle.keys.specs.declared.Keys.{Keys}
+use Rattle.keys.specs.declared.edge_keys.Keys.{Keys}
 
 -- 0 where nothing is filtered, else 64 times the size plus the level
 unfoldable pub key_of : Decision → ℕ
@@ -28,7 +28,7 @@ key_in s pass chroma cells parity k =
 unfoldable pub keys_of : Superblock → Pass → (chroma : Bool) (cells : List ℕ) (parity : ℕ) → List ℕ
 keys_of s pass chroma cells parity = table (key_in s pass chroma cells parity) 64
 
--- what is told of a pass: its keys, and whether a decided position reads a cell without level
+-- what is told of a pass: its keys, and the first decided position that reads a cell without level
 abbrev pub Told : Superblock → Pass → (chroma : Bool) (cells : List ℕ) → Keys → Type 0
 Told s pass chroma cells r =
-    (r.outer ≡ keys_of s pass chroma cells 0) × (r.inner ≡ keys_of s pass chroma cells 1) × (r.lacking ≡ found (levelless s pass chroma cells) (64 * edge_count s pass))
+    (r.outer ≡ keys_of s pass chroma cells 0) × (r.inner ≡ keys_of s pass chroma cells 1) × (r.lacking ≡ first_found (levelless s pass chroma cells) (64 * edge_count s pass))

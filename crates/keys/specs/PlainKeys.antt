@@ -1,6 +1,6 @@
 -- Keys by plain numbers: those of a pass, turned so that it goes from edge to edge and along each; those of an edge; and a cell's word.
 -- Assumes nothing.
-use Rattle.std.specs.Prelude.{◌≡◌, Bool, cond, not, ◌&&◌, ◌||◌, List, ℕ, ◌+◌, ◌-◌, ◌*◌, ◌/◌, ◌%◌, ◌^◌, ◌≤◌, ◌<◌, eqb, ltb, length, get_or, replicate}
+use Rattle.std.specs.Prelude.{◌≡◌, Bool, cond, not, ◌&&◌, ◌||◌, List, ℕ, ◌+◌, ◌-◌, ◌*◌, ◌/◌, ◌%◌, ◌^◌, ◌≤◌, ◌<◌, eqb, ltb, length, get_or, replicate, Option, Some, None}
 use Rattle.base.specs.Filled.{filled}
 use Rattle.base.specs.First.{first, found}
 use Rattle.cells.specs.Cell.{bit}
@@ -10,7 +10,7 @@ use Rattle.geometry.specs.declared.Pass.{Pass}
 use Rattle.geometry.specs.declared.Pass.TheVariants.{Vertical, Horizontal}
 use Rattle.geometry.specs.declared.Superblock.{Superblock}
 use Rattle.keys.specs.Keys.{key_of}
-use Rattle.keys.specs.declared.Keys.{Keys}
+use Rattle.keys.specs.declared.edge_keys.Keys.{Keys}
 use Rattle.keys.specs.declared.edge_limits.EdgeLimits.{EdgeLimits}
 use Rattle.keys.specs.declared.turned.Turned.{Turned}
 
@@ -115,20 +115,22 @@ plain_key t words parity k = key_by (limits_in t parity k) t.log t.tx words k
 unfoldable pub plain_lack : Turned → (words : List ℕ) (k : ℕ) → Bool
 plain_lack t words k = lack_by (limits_in t 0 k) (limits_in t 1 k) t.log t.tx words k
 
--- what is told by the words of a pass
+-- the keys of a pass by its words
 abbrev pub plain_keys : Turned → (words : List ℕ) (parity : ℕ) → List ℕ
 plain_keys t words parity = filled (plain_key t words parity) 0 (8 * pairs t.sub) (replicate 64 0)
-
-abbrev pub PlainTold : Turned → (words : List ℕ) → Keys → Type 0
-PlainTold t words r = (r.outer ≡ plain_keys t words 0) × (r.inner ≡ plain_keys t words 1) × (r.lacking ≡ found (plain_lack t words) (8 * pairs t.sub))
 
 -- whether a level lacks at cell k, 8 cells to an edge; the two edges of a pair read the same words
 unfoldable pub lack_at : Turned → (words : List ℕ) (k : ℕ) → Bool
 lack_at t words k = without_level (plain_in (limits_of t (k / 8)) t.log t.tx words (8 * (k / 16) + k % 8))
 
--- and the place of the first position of the first such cell
-abbrev pub place_by : Turned → (words : List ℕ) → ℕ
-place_by t words = cell_place t.paired (first (lack_at t words) (16 * pairs t.sub))
+-- and the place of the first position of the first such cell, if there is one
+abbrev pub place_by : Turned → (words : List ℕ) → Option ℕ
+place_by t words = cond (found (lack_at t words) (16 * pairs t.sub)) (Some (cell_place t.paired (first (lack_at t words) (16 * pairs t.sub)))) None
+
+-- what is told of a pass by its words
+abbrev pub PlainTold : Turned → (words : List ℕ) → Keys → Type 0
+PlainTold t words r =
+    (r.outer ≡ plain_keys t words 0) × (r.inner ≡ plain_keys t words 1) × (r.lacking ≡ cond (found (plain_lack t words) (8 * pairs t.sub)) (place_by t words) None)
 
 -- the place of the first cell that edge pair e reads, and that of the cell at c from there
 abbrev pub base_of : Turned → (e : ℕ) → ℕ

@@ -1,14 +1,13 @@
-// The words that the edges of a pass read: cell c of edge pair e at 8 * e + c. The row's cells are words, or bytes.
-ghost use Rattle.std.specs.Prelude.{◌≡◌, ◌+◌, ◌*◌, ◌/◌, ◌≤◌, ◌<◌, length};
+// The words that the edges of a pass read: cell c of edge pair e at 8 * e + c.
+ghost use Rattle.std.specs.Prelude.{◌≡◌, ◌+◌, ◌*◌, ◌≤◌, ◌<◌, length};
 ghost use Rattle.base.specs.Filled.{filled};
 ghost use Rattle.geometry.specs.Frame.{cells_from};
 ghost use Rattle.positions.specs.Positions.{Placed};
-ghost use Rattle.word_bytes.specs.WordBytes.{words_of};
 ghost use Rattle.keys.specs.PlainKeys.{turned_of, pairs, offset, rounded, clamped, base_of, place_from, word_from, fetched, Small};
 
 use crate::turned::{Turned, pair_count, turned_of};
 use geometry::{Pass, Superblock};
-use word_bytes::word_at_unchecked;
+use word_bytes::Words;
 
 // The place that is so many steps behind another.
 fn place_at(base: usize, steps: usize, step: usize) -> usize
@@ -57,75 +56,37 @@ fn base_of(t: Turned, e: usize) -> usize
     place_at(t.from, offset_of(t.sub, e), t.across)
 }
 
-// Fetches the words of edge pair e, from base on.
-fn fetch_pair(
+// Fetches the words of edge pair e, from base on. The loop has no branch.
+fn fetch_pair<C: Words>(
     words: &mut [u32; 64],
-    cells: &[u32],
+    cells: C,
     e: usize,
     base: usize,
     paired: bool,
     along: usize,
 )
-    requires { (e < 8) × (base ≤ 65536) × (along ≤ 8192) × (0 < length cells.now) }
-    ensures { words.new ≡ filled (word_from base paired along cells.now) (8 * e) 8 words.old }
+    requires { (e < 8) × (base ≤ 65536) × (along ≤ 8192) × (0 < length (C.words cells)) }
+    ensures { words.new ≡ filled (word_from base paired along (C.words cells)) (8 * e) 8 words.old }
 {
-    let mut c: usize = 0;
-    while c < 8 {
-        let at = place_from(base, paired, along, c, cells.len());
-        words[8 * e + c] = cells[at];
-        c += 1;
-    }
-}
-
-pub(crate) fn fetch(words: &mut [u32; 64], cells: &[u32], s: Superblock, pass: Pass, chroma: bool)
-    requires { Placed s × (cells_from s.row s.cols s.rows ≤ length cells.now) }
-    ensures { words.new ≡ fetched (turned_of s pass chroma) cells.now words.old }
-{
-    let t = turned_of(s, pass, chroma);
-    let count = pair_count(t.sub);
-    let mut e: usize = 0;
-    while e < count {
-        fetch_pair(words, cells, e, base_of(t, e), t.paired, t.along);
-        e += 1;
-    }
-}
-
-// The same of words that arrive as bytes.
-fn fetch_pair_bytes(
-    words: &mut [u32; 64],
-    cells: &[u8],
-    e: usize,
-    base: usize,
-    paired: bool,
-    along: usize,
-)
-    requires { (e < 8) × (base ≤ 65536) × (along ≤ 8192) × (0 < length cells.now / 4) }
-    ensures { words.new ≡ filled (word_from base paired along (words_of cells.now)) (8 * e) 8 words.old }
-{
-    let size = cells.len() / 4;
-    let mut c: usize = 0;
-    while c < 8 {
+    let size = cells.count();
+    for c in 0..8 {
         let at = place_from(base, paired, along, c, size);
-        words[8 * e + c] = word_at_unchecked(cells, 4 * at);
-        c += 1;
+        words[8 * e + c] = cells.word_unchecked(at);
     }
 }
 
-pub(crate) fn fetch_bytes(
+pub(crate) fn fetch<C: Words>(
     words: &mut [u32; 64],
-    cells: &[u8],
+    cells: C,
     s: Superblock,
     pass: Pass,
     chroma: bool,
 )
-    requires { Placed s × (cells_from s.row s.cols s.rows ≤ length cells.now / 4) }
-    ensures { words.new ≡ fetched (turned_of s pass chroma) (words_of cells.now) words.old }
+    requires { Placed s × (cells_from s.row s.cols s.rows ≤ length (C.words cells)) }
+    ensures { words.new ≡ fetched (turned_of s pass chroma) (C.words cells) words.old }
 {
     let t = turned_of(s, pass, chroma);
-    let count = pair_count(t.sub);
-    let mut e: usize = 0;
-    while e < count {
-        fetch_pair_bytes(words, cells, e, base_of(t, e), t.paired, t.along);
-        e += 1;
+    for e in 0..pair_count(t.sub) {
+        fetch_pair(words, cells, e, base_of(t, e), t.paired, t.along);
     }
 }

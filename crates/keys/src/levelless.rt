@@ -1,13 +1,12 @@
 // The place of the first position that decides without level, by the words of a pass.
 ghost use Rattle.std.specs.Prelude.{◌≡◌, ◌*◌, ◌≤◌, ◌<◌};
-ghost use Rattle.base.specs.First.{first};
+ghost use Rattle.base.specs.First.{first_found};
 ghost use Rattle.decisions.specs.Decision.{cell_place};
-ghost use Rattle.positions.specs.Positions.{Placed};
-ghost use Rattle.keys.specs.PlainKeys.{turned_of, pairs, lack_at, place_by, Small};
+ghost use Rattle.keys.specs.PlainKeys.{pairs, lack_at, place_by, Small};
 
 use crate::edge_limits::{entry_of, limits_of};
-use crate::turned::{Turned, pair_count, turned_of};
-use geometry::{Pass, Superblock};
+use crate::turned::{Turned, pair_count};
+use base::search::first_place;
 
 // Whether cell k decides without level, 8 cells to an edge. The two edges of a pair read the same words.
 fn lacks(words: &[u32; 64], t: Turned, k: usize) -> bool
@@ -22,18 +21,12 @@ fn lacks(words: &[u32; 64], t: Turned, k: usize) -> bool
     entry.lacking
 }
 
-// The first such cell, or the number of cells.
-fn first_lack(words: &[u32; 64], t: Turned) -> usize
+// The first such cell, if there is one.
+fn first_lack(words: &[u32; 64], t: Turned) -> Option<usize>
     requires { Small t }
-    ensures { (result ≡ first (lack_at t words.now) (16 * pairs t.sub)) × (result ≤ 128) }
+    ensures { result ≡ first_found (lack_at t words.now) (16 * pairs t.sub) }
 {
-    let count = 16 * pair_count(t.sub);
-    for k in 0..count {
-        if lacks(words, t, k) {
-            return k;
-        }
-    }
-    count
+    first_place(16 * pair_count(t.sub), |k| lacks(words, t, k))
 }
 
 // The place of the first position of cell k.
@@ -49,10 +42,10 @@ fn cell_place(paired: bool, k: usize) -> usize
 }
 
 // The positions of a cell have one decision, so the first of the first such cell is the place.
-pub(crate) fn first_place(words: &[u32; 64], s: Superblock, pass: Pass, chroma: bool) -> usize
-    requires { Placed s }
-    ensures { result ≡ place_by (turned_of s pass chroma) words.now }
+pub(crate) fn lacking_place(words: &[u32; 64], t: Turned) -> Option<usize>
+    requires { Small t }
+    ensures { result ≡ place_by t words.now }
 {
-    let t = turned_of(s, pass, chroma);
-    cell_place(t.paired, first_lack(words, t))
+    let k = first_lack(words, t)?;
+    Some(cell_place(t.paired, k))
 }

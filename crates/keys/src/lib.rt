@@ -1,35 +1,27 @@
 // The keys of a pass over a superblock of a plane, and the place of a level that lacks, by cells as words or as bytes.
 #![tactic(auto)]
 
-ghost use Rattle.std.specs.Prelude.{◌≡◌, ◌+◌, ◌*◌, ◌/◌, ◌≤◌, ◌<◌, length};
+ghost use Rattle.std.specs.Prelude.{◌≡◌, ◌+◌, ◌*◌, ◌≤◌, ◌<◌, length};
 ghost use Rattle.base.specs.Filled.{filled};
-ghost use Rattle.base.specs.First.{first, found};
-ghost use Rattle.decisions.specs.Decision.{levelless};
+ghost use Rattle.base.specs.First.{found};
 ghost use Rattle.geometry.specs.Frame.{cells_from};
-ghost use Rattle.pass_edges.specs.PassEdges.{edge_count};
 ghost use Rattle.positions.specs.Positions.{Placed};
-ghost use Rattle.word_bytes.specs.WordBytes.{words_of};
 ghost use Rattle.keys.specs.Keys.{Told};
 ghost use Rattle.keys.specs.PlainKeys.{turned_of, pairs, key_by, lack_by, plain_key, plain_lack, PlainTold, Small};
 
+mod edge_keys;
 mod edge_limits;
 mod fetch;
 mod levelless;
 mod turned;
 
+pub use edge_keys::Keys;
 use edge_limits::{EdgeLimits, entry_of, limits_of};
-use fetch::{fetch, fetch_bytes};
+use fetch::fetch;
 use geometry::{Pass, Superblock};
-use levelless::first_place;
+use levelless::lacking_place;
 use turned::{Turned, pair_count, turned_of};
-
-// The keys of the outer and of the inner edges, and whether a decided position reads a cell without level.
-#[derive(Clone, Copy)]
-pub struct Keys {
-    pub outer: [u8; 64],
-    pub inner: [u8; 64],
-    pub lacking: bool,
-}
+use word_bytes::Words;
 
 // Stores the keys of edge pair e, whose limits are n and m. The loop has no branch, which vectorises.
 fn put_pair(
@@ -46,8 +38,7 @@ fn put_pair(
     ensures { (outer.new ≡ filled (key_by n log tx words.now) (8 * e) 8 outer.old) × (inner.new ≡ filled (key_by m log tx words.now) (8 * e) 8 inner.old) × (result ≡ found (λ c. lack_by n m log tx words.now (8 * e + c)) 8) }
 {
     let mut lacking = false;
-    let mut c: usize = 0;
-    while c < 8 {
+    for c in 0..8 {
         let w = words[8 * e + c];
         let a = (w >> log) % 4;
         let t = (w >> tx) % 4;
@@ -58,7 +49,6 @@ fn put_pair(
         let outside = p.lacking;
         let inside = q.lacking;
         lacking = lacking | (outside | inside);
-        c += 1;
     }
     lacking
 }
@@ -68,20 +58,18 @@ fn put_keys(outer: &mut [u8; 64], inner: &mut [u8; 64], words: &[u32; 64], t: Tu
     requires { Small t }
     ensures { (outer.new ≡ filled (plain_key t words.now 0) 0 (8 * pairs t.sub) outer.old) × (inner.new ≡ filled (plain_key t words.now 1) 0 (8 * pairs t.sub) inner.old) × (result ≡ found (plain_lack t words.now) (8 * pairs t.sub)) }
 {
-    let count = pair_count(t.sub);
     let mut lacking = false;
-    let mut e: usize = 0;
-    while e < count {
+    for e in 0..pair_count(t.sub) {
         let n = limits_of(t, 2 * e);
         let m = limits_of(t, 2 * e + 1);
         let r = put_pair(outer, inner, words, e, t.log, t.tx, n, m);
         lacking = lacking | r;
-        e += 1;
     }
     lacking
 }
 
-// The keys by the words that were fetched. The arrays are local here, which the loop needs to become vectors.
+// The keys by the words that were fetched. The arrays are local here, which the loop needs to become vectors. A place is looked for
+// only after a hit.
 fn keys_by(words: &[u32; 64], s: Superblock, pass: Pass, chroma: bool) -> Keys
     requires { Placed s }
     ensures { PlainTold (turned_of s pass chroma) words.now result }
@@ -89,7 +77,11 @@ fn keys_by(words: &[u32; 64], s: Superblock, pass: Pass, chroma: bool) -> Keys
     let t = turned_of(s, pass, chroma);
     let mut outer = [0u8; 64];
     let mut inner = [0u8; 64];
-    let lacking = put_keys(&mut outer, &mut inner, words, t);
+    let lacking = if put_keys(&mut outer, &mut inner, words, t) {
+        lacking_place(words, t)
+    } else {
+        None
+    };
     Keys {
         outer,
         inner,
@@ -97,45 +89,12 @@ fn keys_by(words: &[u32; 64], s: Superblock, pass: Pass, chroma: bool) -> Keys
     }
 }
 
-// The keys of all edges of a pass, and whether a decided position reads a cell without level.
-pub fn keys_unchecked(cells: &[u32], s: Superblock, pass: Pass, chroma: bool) -> Keys
-    requires { Placed s × (cells_from s.row s.cols s.rows ≤ length cells.now) }
-    ensures { Told s pass chroma cells.now result }
+// The keys of all edges of a pass, and the place of the first decided position whose cell has no level.
+pub fn keys_unchecked<C: Words>(cells: C, s: Superblock, pass: Pass, chroma: bool) -> Keys
+    requires { Placed s × (cells_from s.row s.cols s.rows ≤ length (C.words cells)) }
+    ensures { Told s pass chroma (C.words cells) result }
 {
     let mut words = [0u32; 64];
     fetch(&mut words, cells, s, pass, chroma);
     keys_by(&words, s, pass, chroma)
-}
-
-pub fn keys_bytes_unchecked(cells: &[u8], s: Superblock, pass: Pass, chroma: bool) -> Keys
-    requires { Placed s × (cells_from s.row s.cols s.rows ≤ length cells.now / 4) }
-    ensures { Told s pass chroma (words_of cells.now) result }
-{
-    let mut words = [0u32; 64];
-    fetch_bytes(&mut words, cells, s, pass, chroma);
-    keys_by(&words, s, pass, chroma)
-}
-
-// The place of the first decided position whose cell has no level, or 64 times the number of edges.
-pub fn first_levelless_unchecked(cells: &[u32], s: Superblock, pass: Pass, chroma: bool) -> usize
-    requires { Placed s × (cells_from s.row s.cols s.rows ≤ length cells.now) }
-    ensures { result ≡ first (levelless s pass chroma cells.now) (64 * edge_count s pass) }
-{
-    let mut words = [0u32; 64];
-    fetch(&mut words, cells, s, pass, chroma);
-    first_place(&words, s, pass, chroma)
-}
-
-pub fn first_levelless_bytes_unchecked(
-    cells: &[u8],
-    s: Superblock,
-    pass: Pass,
-    chroma: bool,
-) -> usize
-    requires { Placed s × (cells_from s.row s.cols s.rows ≤ length cells.now / 4) }
-    ensures { result ≡ first (levelless s pass chroma (words_of cells.now)) (64 * edge_count s pass) }
-{
-    let mut words = [0u32; 64];
-    fetch_bytes(&mut words, cells, s, pass, chroma);
-    first_place(&words, s, pass, chroma)
 }

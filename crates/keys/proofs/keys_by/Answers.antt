@@ -1,7 +1,7 @@
+use Rattle.keys.proofs.KeyedLaws.{keyed}
 use Rattle.keys.proofs.keys_by.Goals as goal
 
-pub returns : goal.returns
-returns c =
-    let t = c.turned_of-t.ensures.0 in
-    let r = c.put_keys-lacking.ensures in
-    (rw t at r.0, rw t at r.1, rw t at r.2)
+pub invariant_of-result : goal.invariant_of-result
+invariant_of-result c =
+    let r = c.put_keys.ensures in
+    record { keyed = keyed c.turned_of-t.result c.args.words.now r.0 r.1 }

@@ -1,5 +1,4 @@
-use mathlib.Core.Path.{◌≡◌}
-use Prim.Native.Nat.{◌-◌, ◌*◌, ◌≤◌}
+use Rattle.std.proofs.Common.{◌≡◌, ◌*◌}
 use Rattle.base.specs.Filled.{filled}
 use Rattle.base.specs.First.{found}
 use Rattle.keys.specs.PlainKeys.{plain_key, plain_lack}
@@ -7,10 +6,6 @@ use Rattle.keys.proofs.put_keys.Given as goal
 
 abbrev pub invariant-loop-e : goal.invariant-loop-e
 invariant-loop-e l =
-    (l.e ≤ l.count)
-    × (l.outer ≡ filled (plain_key l.t l.words 0) 0 (8 * l.e) l.initial.outer)
+    (l.outer ≡ filled (plain_key l.t l.words 0) 0 (8 * l.e) l.initial.outer)
     × (l.inner ≡ filled (plain_key l.t l.words 1) 0 (8 * l.e) l.initial.inner)
     × (l.lacking ≡ found (plain_lack l.t l.words) (8 * l.e))
-
-abbrev pub decreases-loop-e : goal.decreases-loop-e
-decreases-loop-e l = l.count - l.e

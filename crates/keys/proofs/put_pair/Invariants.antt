@@ -1,5 +1,4 @@
-use mathlib.Core.Path.{◌≡◌}
-use Prim.Native.Nat.{◌+◌, ◌-◌, ◌*◌, ◌≤◌}
+use Rattle.std.proofs.Common.{◌≡◌, ◌+◌, ◌*◌}
 use Rattle.base.specs.Filled.{filled}
 use Rattle.base.specs.First.{found}
 use Rattle.keys.specs.PlainKeys.{key_by, lack_by}
@@ -7,10 +6,6 @@ use Rattle.keys.proofs.put_pair.Given as goal
 
 abbrev pub invariant-loop-c : goal.invariant-loop-c
 invariant-loop-c l =
-    (l.c ≤ 8)
-    × (l.outer ≡ filled (key_by l.n l.log l.tx l.words) (8 * l.e) l.c l.initial.outer)
+    (l.outer ≡ filled (key_by l.n l.log l.tx l.words) (8 * l.e) l.c l.initial.outer)
     × (l.inner ≡ filled (key_by l.m l.log l.tx l.words) (8 * l.e) l.c l.initial.inner)
     × (l.lacking ≡ found (λ j. lack_by l.n l.m l.log l.tx l.words (8 * l.e + j)) l.c)
-
-abbrev pub decreases-loop-c : goal.decreases-loop-c
-decreases-loop-c l = 8 - l.c
