@@ -1,4 +1,4 @@
--- The runs that keys make are the runs of the pass (`key_runs_lem`), and keys are small (`keys_small`).
+-- The runs that keys make are the runs of the pass (`key_runs_lem`).
 -- Assumes nothing.
 use Rattle.std.specs.Prelude.{◌≡◌, Bool, ◌&&◌, ℕ, zero, suc, ◌+◌, ◌*◌, ◌/◌, ◌%◌, ◌≤◌, ◌<◌, length, get_or}
 use Rattle.std.proofs.Math.Path.{refl, sym, ap}
@@ -22,7 +22,8 @@ use Rattle.order.specs.Grid.{keep_if, select, select_append, strip, strips, grid
 use Rattle.pass_edges.specs.PassEdges.{along_sub, cell_start, edge_count}
 use Rattle.pass_edges.specs.PassEdgesLaws.{edge_count_small, edge_len_small, cell_first}
 use Rattle.decided.specs.Runs.{level_of, cell_run, joined, run_filters, runs}
-use Rattle.decided.specs.KeyRuns.{key_run, key_for, key_cell, key_runs, Keyed}
+use Rattle.decided.specs.KeyRuns.{key_run, key_cell, key_runs}
+use Rattle.keys.specs.Keyed.{key_for}
 use Rattle.decided.proofs.KeptLaws.{kept_grid}
 use Rattle.decided.specs.RunsLaws.{Small}
 use Rattle.decided.specs.declared.EdgeRun.{EdgeRun}
@@ -88,33 +89,10 @@ module _ (d : Decision) (size : d.size ≤ 2) (level : d.level ≤ 63) where
       by true false e h = absurd (omega (arith, ltb-false 0 d.level e))
       by true true e h = omega arith
 
-  key_small : key_of d < 192
-  unfolding key_of
-  key_small = by (d.decided && ltb 0 d.level)
-    where
-      by : (b : Bool) → cond b (64 * d.size + d.level) 0 < 192
-      by true = omega arith
-      by false = omega arith
-
 module _ (s : Superblock) (pass : Pass) (chroma : Bool) (cells : List ℕ) where
-  at_small : (edge c : ℕ) → key_at s pass chroma cells edge c < 192
-  unfolding key_at
-  at_small edge c = key_small _ (decision_size s pass chroma cells edge (cell_start s pass c)) (decision_level s pass chroma cells edge (cell_start s pass c))
-
-  in_small : (parity k : ℕ) → key_in s pass chroma cells parity k < 192
-  unfolding key_in
-  in_small parity k = by (ltb (2 * (k / 8) + parity) (edge_count s pass))
-    where
-      by : (b : Bool) → cond b (key_at s pass chroma cells (2 * (k / 8) + parity) (k % 8)) 0 < 192
-      by true = at_small (2 * (k / 8) + parity) (k % 8)
-      by false = omega arith
-
   list_at : (parity k : ℕ) → k < 64 → get_or (keys_of s pass chroma cells parity) k 0 ≡ key_in s pass chroma cells parity k
   unfolding keys_of
   list_at parity k h = table_at (key_in s pass chroma cells parity) 64 k h
-
-  list_small : (parity k : ℕ) → k < 64 → get_or (keys_of s pass chroma cells parity) k 0 < 192
-  list_small parity k h = rw (list_at parity k h) (in_small parity k)
 
   -- cell c of edge 2 * e + parity
   list_key : (parity e c : ℕ) → 2 * e + parity < edge_count s pass → c < 8
@@ -127,9 +105,6 @@ module _ (s : Superblock) (pass : Pass) (chroma : Bool) (cells : List ℕ) where
       list_at parity (8 * e + c) (omega arith) ∙ (rw (row, column, lt-ltb (2 * e + parity) (edge_count s pass) h))
 
   module _ (outer inner : List ℕ) (even : outer ≡ keys_of s pass chroma cells 0) (odd : inner ≡ keys_of s pass chroma cells 1) where
-    pub keys_small : Keyed outer inner
-    keys_small = record { even = λ k h. rw even (list_small 0 k h); odd = λ k h. rw odd (list_small 1 k h) }
-
     pub key_for_lem : (edge c : ℕ) → edge < edge_count s pass → c < 8 → key_for outer inner edge c ≡ key_at s pass chroma cells edge c
     unfolding key_for
     key_for_lem edge c h k = by (eqb (edge % 2) 0) refl

@@ -8,7 +8,8 @@ use Rattle.geometry.specs.declared.Pass.{Pass}
 use Rattle.geometry.specs.declared.Superblock.{Superblock}
 use Rattle.order.specs.Grid.{select, select_append, strip, grid, strip_split}
 use Rattle.order.proofs.Grid.{strips_split}
-use Rattle.decided.specs.KeyRuns.{key_run, key_for, key_cell}
+use Rattle.decided.specs.KeyRuns.{key_run, key_cell}
+use Rattle.keys.specs.Keyed.{key_for}
 use Rattle.decided.specs.Runs.{joins, longer, joined_from, run_filters}
 use Rattle.decided.specs.declared.EdgeRun.{EdgeRun}
 

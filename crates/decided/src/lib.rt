@@ -3,7 +3,7 @@
 
 ghost use Rattle.std.specs.Prelude.{◌≡◌, ◌+◌, ◌≤◌, ◌<◌};
 ghost use Rattle.decided.specs.Decided.{superblock_of};
-ghost use Rattle.decided.specs.KeyRuns.{key_run, key_for, Keyed};
+ghost use Rattle.decided.specs.KeyRuns.{key_run};
 ghost use Rattle.decided.specs.Runs.{joins, longer};
 ghost use Rattle.decided.specs.RunsLaws.{Small};
 ghost use Rattle.pass_edges.specs.PassEdges.{edge_count};
@@ -57,15 +57,6 @@ pub fn no_run() -> EdgeRun
     }
 }
 
-// The key of cell c along an edge. The outer edges have the even numbers.
-pub fn key_at_unchecked(outer: &[u8; 64], inner: &[u8; 64], edge: usize, c: usize) -> u8
-    requires { Keyed outer.now inner.now × (edge < 16) × (c < 8) }
-    ensures { (result ≡ key_for outer.now inner.now edge c) × (result < 192) }
-{
-    let k = 8 * (edge / 2) + c;
-    if edge % 2 == 0 { outer[k] } else { inner[k] }
-}
-
 // The positions of one cell along an edge, as a run by themselves.
 pub fn key_run_unchecked(s: Superblock, pass: Pass, key: u8, edge: usize, c: usize) -> EdgeRun
     requires { (key < 192) × (edge < edge_count s pass) × (c < 8) }
@@ -98,10 +89,7 @@ pub fn longer_unchecked(a: EdgeRun, count: usize) -> EdgeRun
     ensures { (result ≡ longer a count) × Small result }
 {
     EdgeRun {
-        edge: a.edge,
-        first: a.first,
         count: a.count + count,
-        size: a.size,
-        level: a.level,
+        ..a
     }
 }

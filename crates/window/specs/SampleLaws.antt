@@ -1,10 +1,10 @@
 -- Laws of the test of a window's samples, which goes row by row.
 -- Assumes nothing.
-use Rattle.std.specs.Prelude.{◌≡◌, true, false, ◌||◌, List, ℕ, ◌+◌, ◌-◌, ◌*◌, ◌≤◌, ◌<◌}
+use Rattle.std.specs.Prelude.{◌≡◌, true, false, ◌||◌, List, ℕ, ◌+◌, ◌-◌, ◌*◌, ◌≤◌, ◌<◌, Some}
 use Rattle.std.proofs.Common.{sym, ap, ◌∙◌, zero-mul, suc-mul, mul-le-mul, mul-le-mul_right, add-one, arith}
 use Rattle.std.proofs.Math.Arith.{digits_div, digits_mod}
-use Rattle.base.specs.First.{found, first}
-use Rattle.base.specs.FirstLaws.{found_join, found_same, first_same, first_behind}
+use Rattle.base.specs.First.{found, first, first_found, first_is, place_found}
+use Rattle.base.specs.FirstLaws.{found_join, found_same, found_at, first_same, first_behind}
 use Rattle.window.specs.Window.{reaches, bad_sample}
 use Rattle.window.specs.WindowLaws.{Lent}
 use Rattle.window.specs.declared.WindowShape.{WindowShape}
@@ -34,6 +34,18 @@ module _ (g : WindowShape) (bound : ℕ) (samples : List ℕ) where
       let end : row * g.width + g.width ≤ n * g.width = omega (arith, next_row row, mul-le-mul_right g.width h) in
       sym (first_behind (bad_sample g bound samples) (row * g.width) g.width (n * g.width) none (found_same _ _ g.width (in_row row) ∙ some) end
       ∙ ap (λ (k : ℕ). row * g.width + k) (first_same _ _ g.width (in_row row)))
+
+  pub rows_found : (row n : ℕ) {k : ℕ} → row < n → found (bad_sample g bound samples) (row * g.width) ≡ false → first_found (reaches bound samples (row * g.stride)) g.width ≡ Some k
+      → (k < g.width) × (Some (row * g.width + k) ≡ first_found (bad_sample g bound samples) (n * g.width))
+  rows_found row n {k} h none e =
+      let hit = place_found (reaches bound samples (row * g.stride)) g.width e in
+      let place = first_is (reaches bound samples (row * g.stride)) g.width hit.0 in
+      let to = place.to in
+      let is = hit.1 in
+      let inside : k < g.width = omega arith in
+      let end : row * g.width + g.width ≤ n * g.width = omega (arith, next_row row, mul-le-mul_right g.width h) in
+      let some = found_at (bad_sample g bound samples) (n * g.width) (row * g.width + k) (omega arith) (in_row row k inside ∙ (rw hit.1 at place.holds)) in
+      (inside, rw (some, ← rows_first row n h none hit.0, hit.1))
 
 -- a row of a window is lent, and no count is large
 pub row_room : (g : WindowShape) (n row : ℕ) → Lent g n → row < g.height → (row * g.stride + g.width ≤ n) × (row * g.stride ≤ 65536 * 131072) × (row * g.width ≤ 65536 * 65536)

@@ -2,9 +2,11 @@
 #![tactic(auto)]
 
 ghost use Rattle.std.specs.Prelude.{◌≡◌, ◌+◌, ◌*◌, ◌≤◌, length};
-ghost use Rattle.base.specs.First.{first, found};
+ghost use Rattle.base.specs.First.{first_found};
 ghost use Rattle.window.specs.Window.{bad_window, reaches, bad_sample};
 ghost use Rattle.window.specs.WindowLaws.{Lent, uncountable};
+
+use base::search::first_place;
 
 // Rows of a plane's samples in a list that a caller lends: height rows of width samples, stride apart, the first of them at the
 // plane's row top, which document 01 calls y origin.
@@ -40,52 +42,23 @@ pub fn bad_window(g: WindowShape, lent: usize) -> bool
         | (lent < (g.height - 1) * g.stride + g.width)
 }
 
-// Whether a sample of a row is not below the bound.
-fn row_reaches(samples: &[u16], start: usize, width: usize, bound: u16) -> bool
+// The first sample of a row that is not below the bound, if one is.
+fn first_in_row(samples: &[u16], start: usize, width: usize, bound: u16) -> Option<usize>
     requires { start + width ≤ length samples.now }
-    ensures { result ≡ found (reaches bound samples.now start) width }
+    ensures { result ≡ first_found (reaches bound samples.now start) width }
 {
-    let mut any = false;
-    for k in 0..width {
-        any = any | (bound <= samples[start + k]);
-    }
-    any
+    first_place(width, move |k| bound <= samples[start + k])
 }
 
-// The first of them, or the width.
-fn first_in_row(samples: &[u16], start: usize, width: usize, bound: u16) -> usize
-    requires { start + width ≤ length samples.now }
-    ensures { result ≡ first (reaches bound samples.now start) width }
-{
-    for k in 0..width {
-        if bound <= samples[start + k] {
-            return k;
-        }
-    }
-    width
-}
-
-// Document 01's test 13: whether a sample of the window is not below the bound.
-pub fn any_bad_sample_unchecked(samples: &[u16], g: WindowShape, bound: u16) -> bool
+// Document 01's test 13: the first sample of the window, row by row, that is not below the bound, if one is.
+pub fn first_bad_sample_unchecked(samples: &[u16], g: WindowShape, bound: u16) -> Option<usize>
     requires { Lent g (length samples.now) }
-    ensures { result ≡ found (bad_sample g bound samples.now) (g.height * g.width) }
-{
-    let mut any = false;
-    for row in 0..g.height {
-        any = any | row_reaches(samples, row * g.stride, g.width, bound);
-    }
-    any
-}
-
-// The first of them, row by row, or the number of samples.
-pub fn first_bad_sample_unchecked(samples: &[u16], g: WindowShape, bound: u16) -> usize
-    requires { Lent g (length samples.now) }
-    ensures { result ≡ first (bad_sample g bound samples.now) (g.height * g.width) }
+    ensures { result ≡ first_found (bad_sample g bound samples.now) (g.height * g.width) }
 {
     for row in 0..g.height {
-        if row_reaches(samples, row * g.stride, g.width, bound) {
-            return row * g.width + first_in_row(samples, row * g.stride, g.width, bound);
+        if let Some(k) = first_in_row(samples, row * g.stride, g.width, bound) {
+            return Some(row * g.width + k);
         }
     }
-    g.height * g.width
+    None
 }
