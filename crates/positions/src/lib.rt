@@ -7,6 +7,18 @@ ghost use Rattle.positions.specs.Positions.{Placed, luma_x, luma_y, plane_x, pla
 
 use geometry::{Luma, Pass, Plane, Superblock};
 
+// Position i on an edge of a pass over a superblock, whose frame, row and column are tested.
+#[derive(Clone, Copy)]
+pub struct EdgePosition {
+    pub s: Superblock,
+    pub pass: Pass,
+    pub edge: usize,
+    pub i: usize,
+    pub ghost placed: { Placed s },
+    pub ghost edge_small: { edge < 16 },
+    pub ghost i_small: { i < 64 },
+}
+
 fn doubled(n: usize, sub: bool) -> usize
     requires { n ≤ 65536 }
     ensures { (result ≡ shl n sub) × (result ≤ 2 * n) }
@@ -14,38 +26,40 @@ fn doubled(n: usize, sub: bool) -> usize
     if sub { 2 * n } else { n }
 }
 
-// The position in luma samples. It asks for a superblock whose frame, row and column are tested.
-pub fn luma_x_unchecked(s: Superblock, pass: Pass, edge: usize, i: usize) -> Luma
-    requires { Placed s × (edge < 16) × (i < 64) }
-    ensures { (result.0 ≡ luma_x s pass edge i) × (result.0 < 65792) }
-{
-    match pass {
-        Pass::Vertical => Luma(s.col * 8 + edge * doubled(4, s.subx)),
-        Pass::Horizontal => Luma(s.col * 8 + doubled(i, s.subx)),
+impl EdgePosition {
+    // In luma samples.
+
+    pub fn luma_x(self) -> Luma
+        ensures { (result.0 ≡ luma_x self.s self.pass self.edge self.i) × (result.0 < 65792) }
+    {
+        let s = self.s;
+        match self.pass {
+            Pass::Vertical => Luma(s.col * 8 + self.edge * doubled(4, s.subx)),
+            Pass::Horizontal => Luma(s.col * 8 + doubled(self.i, s.subx)),
+        }
     }
-}
 
-pub fn luma_y_unchecked(s: Superblock, pass: Pass, edge: usize, i: usize) -> Luma
-    requires { Placed s × (edge < 16) × (i < 64) }
-    ensures { (result.0 ≡ luma_y s pass edge i) × (result.0 < 65792) }
-{
-    match pass {
-        Pass::Vertical => Luma(s.row * 8 + doubled(i, s.suby)),
-        Pass::Horizontal => Luma(s.row * 8 + edge * doubled(4, s.suby)),
+    pub fn luma_y(self) -> Luma
+        ensures { (result.0 ≡ luma_y self.s self.pass self.edge self.i) × (result.0 < 65792) }
+    {
+        let s = self.s;
+        match self.pass {
+            Pass::Vertical => Luma(s.row * 8 + doubled(self.i, s.suby)),
+            Pass::Horizontal => Luma(s.row * 8 + self.edge * doubled(4, s.suby)),
+        }
     }
-}
 
-// The position's place in its plane.
-pub fn plane_x_unchecked(s: Superblock, pass: Pass, edge: usize, i: usize) -> Plane
-    requires { Placed s × (edge < 16) × (i < 64) }
-    ensures { (result.0 ≡ plane_x s pass edge i) × (result.0 < 65792) }
-{
-    luma_x_unchecked(s, pass, edge, i).in_plane(s.subx)
-}
+    // In the plane.
 
-pub fn plane_y_unchecked(s: Superblock, pass: Pass, edge: usize, i: usize) -> Plane
-    requires { Placed s × (edge < 16) × (i < 64) }
-    ensures { (result.0 ≡ plane_y s pass edge i) × (result.0 < 65792) }
-{
-    luma_y_unchecked(s, pass, edge, i).in_plane(s.suby)
+    pub fn plane_x(self) -> Plane
+        ensures { (result.0 ≡ plane_x self.s self.pass self.edge self.i) × (result.0 < 65792) }
+    {
+        self.luma_x().in_plane(self.s.subx)
+    }
+
+    pub fn plane_y(self) -> Plane
+        ensures { (result.0 ≡ plane_y self.s self.pass self.edge self.i) × (result.0 < 65792) }
+    {
+        self.luma_y().in_plane(self.s.suby)
+    }
 }

@@ -1,11 +1,11 @@
 use native.Mathlib.Omega.{arith}
 use Rattle.geometry.specs.CoordinatesLaws.{shr_small}
-use Rattle.positions.specs.Positions.{plane_y}
-use Rattle.positions.proofs.plane_y_unchecked.Goals as goal
+use Rattle.positions.specs.Positions.{plane_x}
+use Rattle.positions.proofs.EdgePosition.plane_x.Goals as goal
 
 pub returns : goal.returns
-unfolding plane_y
+unfolding plane_x
 returns c =
-    let luma = c.luma_y_unchecked in
-    let small = shr_small luma.result.0 c.args.s.suby in
+    let luma = c.luma_x in
+    let small = shr_small luma.result.0 c.args.self.s.subx in
     (rw (c.in_plane.ensures, luma.ensures.0), omega (arith, small, c.in_plane.ensures, luma.ensures.1))
