@@ -8,56 +8,82 @@ ghost use Rattle.line.specs.SampleFiltering.{sample_filtering};
 ghost use Rattle.lane_filters.specs.LaneSamples.{samples_of, four_of, six_of, fourteen_of, put_taps, Small};
 
 mod depth;
-mod masks;
+pub mod masks;
 mod narrow;
 pub mod wide;
 
 use depth::scaled;
-use masks::{filter_mask, flat_mask, flat_mask2, hev_mask};
+use masks::{filter_mask_unchecked, flat_mask, flat_mask2, hev_mask};
 use narrow::narrow_filter;
 use wide::{wide_fourteen_unchecked, wide_six_unchecked};
 
 // A line by the names of its samples.
 #[derive(Clone, Copy)]
-pub struct Lane {
-    pub p7: u16,
-    pub p6: u16,
-    pub p5: u16,
-    pub p4: u16,
-    pub p3: u16,
-    pub p2: u16,
-    pub p1: u16,
-    pub p0: u16,
-    pub q0: u16,
-    pub q1: u16,
-    pub q2: u16,
-    pub q3: u16,
-    pub q4: u16,
-    pub q5: u16,
-    pub q6: u16,
-    pub q7: u16,
+pub struct Lane<T> {
+    pub p7: T,
+    pub p6: T,
+    pub p5: T,
+    pub p4: T,
+    pub p3: T,
+    pub p2: T,
+    pub p1: T,
+    pub p0: T,
+    pub q0: T,
+    pub q1: T,
+    pub q2: T,
+    pub q3: T,
+    pub q4: T,
+    pub q5: T,
+    pub q6: T,
+    pub q7: T,
 }
 
-// The samples that can change at size 0, and at size 1.
+// The samples that the narrow filter can change, and those that the wide filter of six can.
 #[derive(Clone, Copy)]
-pub struct Four {
-    pub p1: u16,
-    pub p0: u16,
-    pub q0: u16,
-    pub q1: u16,
+pub struct Four<T> {
+    pub p1: T,
+    pub p0: T,
+    pub q0: T,
+    pub q1: T,
 }
 
 #[derive(Clone, Copy)]
-pub struct Six {
-    pub p2: u16,
-    pub p1: u16,
-    pub p0: u16,
-    pub q0: u16,
-    pub q1: u16,
-    pub q2: u16,
+pub struct Six<T> {
+    pub p2: T,
+    pub p1: T,
+    pub p0: T,
+    pub q0: T,
+    pub q1: T,
+    pub q2: T,
 }
 
-fn with_four(a: Lane, r: Four) -> Six
+impl<T: Copy> Lane<T> {
+    pub fn four(self) -> Four<T>
+        ensures { result ≡ record { p1 = self.p1; p0 = self.p0; q0 = self.q0; q1 = self.q1 } }
+    {
+        Four {
+            p1: self.p1,
+            p0: self.p0,
+            q0: self.q0,
+            q1: self.q1,
+        }
+    }
+
+    pub fn six(self) -> Six<T>
+        ensures { result ≡ record { p2 = self.p2; p1 = self.p1; p0 = self.p0; q0 = self.q0; q1 = self.q1; q2 = self.q2 } }
+    {
+        Six {
+            p2: self.p2,
+            p1: self.p1,
+            p0: self.p0,
+            q0: self.q0,
+            q1: self.q1,
+            q2: self.q2,
+        }
+    }
+}
+
+fn with_four(a: Lane<u16>, r: Four<u16>) -> Six<u16>
     ensures { put_taps (samples_of a) 5 (six_of result) ≡ put_taps (samples_of a) 6 (four_of r) }
 {
     Six {
@@ -70,7 +96,7 @@ fn with_four(a: Lane, r: Four) -> Six
     }
 }
 
-fn with_six(a: Lane, r: Six) -> Lane
+fn with_six(a: Lane<u16>, r: Six<u16>) -> Lane<u16>
     ensures { put_taps (samples_of a) 1 (fourteen_of result) ≡ put_taps (samples_of a) 5 (six_of r) }
 {
     Lane {
@@ -94,44 +120,32 @@ fn with_six(a: Lane, r: Six) -> Lane
 }
 
 // Whether a filter is on at all.
-pub fn lane_mask_unchecked(a: Lane, depth: u8, limit: u8, blimit: u8) -> bool
+pub fn lane_mask_unchecked(a: Lane<u16>, depth: u8, limit: u8, blimit: u8) -> bool
     requires { (supported depth ≡ true) × Small a }
     ensures { result ≡ filter_mask (scaled depth limit) (scaled depth blimit) (samples_of a) }
 {
-    filter_mask(a, scaled(limit, depth), scaled(blimit, depth))
+    filter_mask_unchecked(a, scaled(limit, depth), scaled(blimit, depth))
 }
 
 // A lane at size 0, 1 and 2. The samples of the answer are those that can change.
 
-pub fn lane_four_unchecked(a: Lane, depth: u8, limit: u8, blimit: u8, thresh: u8) -> Four
+pub fn lane_four_unchecked(a: Lane<u16>, depth: u8, limit: u8, blimit: u8, thresh: u8) -> Four<u16>
     requires { (supported depth ≡ true) × Small a }
     ensures { put_taps (samples_of a) 6 (four_of result) ≡ sample_filtering depth 0 limit blimit thresh (samples_of a) }
 {
     if !lane_mask_unchecked(a, depth, limit, blimit) {
-        return Four {
-            p1: a.p1,
-            p0: a.p0,
-            q0: a.q0,
-            q1: a.q1,
-        };
+        return a.four();
     }
     let hev = hev_mask(a, scaled(thresh, depth));
     narrow_filter(a, hev, depth)
 }
 
-pub fn lane_six_unchecked(a: Lane, depth: u8, limit: u8, blimit: u8, thresh: u8) -> Six
+pub fn lane_six_unchecked(a: Lane<u16>, depth: u8, limit: u8, blimit: u8, thresh: u8) -> Six<u16>
     requires { (supported depth ≡ true) × Small a }
     ensures { put_taps (samples_of a) 5 (six_of result) ≡ sample_filtering depth 1 limit blimit thresh (samples_of a) }
 {
     if !lane_mask_unchecked(a, depth, limit, blimit) {
-        return Six {
-            p2: a.p2,
-            p1: a.p1,
-            p0: a.p0,
-            q0: a.q0,
-            q1: a.q1,
-            q2: a.q2,
-        };
+        return a.six();
     }
     if !flat_mask(a, scaled(1, depth)) {
         let hev = hev_mask(a, scaled(thresh, depth));
@@ -140,7 +154,13 @@ pub fn lane_six_unchecked(a: Lane, depth: u8, limit: u8, blimit: u8, thresh: u8)
     wide_six_unchecked(a)
 }
 
-pub fn lane_fourteen_unchecked(a: Lane, depth: u8, limit: u8, blimit: u8, thresh: u8) -> Lane
+pub fn lane_fourteen_unchecked(
+    a: Lane<u16>,
+    depth: u8,
+    limit: u8,
+    blimit: u8,
+    thresh: u8,
+) -> Lane<u16>
     requires { (supported depth ≡ true) × Small a }
     ensures { put_taps (samples_of a) 1 (fourteen_of result) ≡ sample_filtering depth 2 limit blimit thresh (samples_of a) }
 {

@@ -13,17 +13,7 @@ use crate::{Four, Lane};
 fn capped(x: u16, y: u16, top: u16) -> u16
     ensures { result ≡ min (x - y) top }
 {
-    if x <= y {
-        return 0;
-    }
-    let d = x - y;
-    if top < d { top } else { d }
-}
-
-fn least(x: u16, y: u16) -> u16
-    ensures { result ≡ min x y }
-{
-    if x < y { x } else { y }
+    x.saturating_sub(y).min(top)
 }
 
 // Step 2: the outer taps count where the variance is high.
@@ -51,7 +41,7 @@ fn eighth(filter: u16, n: u16, one: u16) -> u16
     requires { (0 < one) × (one ≤ 16) × (filter < 256 * one) × (n ≤ 4) }
     ensures { (result ≡ raised_eighth one filter n) × (result < 32 * one) }
 {
-    least(filter + n, 256 * one - 1) / 8
+    (filter + n).min(256 * one - 1) / 8
 }
 
 // Round2( filter, 1 ).
@@ -78,7 +68,7 @@ fn decreased(x: u16, value: u16, k: u16, one: u16) -> u16
     capped(x + k, value, 256 * one - 1)
 }
 
-pub(crate) fn narrow_filter(a: Lane, hev: bool, depth: u8) -> Four
+pub(crate) fn narrow_filter(a: Lane<u16>, hev: bool, depth: u8) -> Four<u16>
     requires { (supported depth ≡ true) × Small a }
     ensures { put_taps (samples_of a) 6 (four_of result) ≡ narrow_filter depth hev (samples_of a) }
 {

@@ -1,2 +1,3 @@
 pub mod WideSums
+pub mod SideSums
 pub mod WideFilterStandard

@@ -2,5 +2,4 @@ pub mod Taps
 pub mod WideFilter
 pub mod WideSums
 pub mod WideFilterLaws
-pub mod SumBounds
 pub mod WideFilterStandard

@@ -1,19 +1,45 @@
 -- The sums of the wide filter as the code forms them, one side at a time.
 -- Assumes nothing.
-use Rattle.std.specs.Prelude.{◌≡◌, List, [], ◌∷◌, ℕ, zero, suc, ◌+◌, ◌-◌, ◌*◌, ◌/◌, pos, negsuc}
+use Rattle.std.specs.Prelude.{◌≡◌, List, [], ◌∷◌, ℕ, zero, suc, ◌+◌, ◌-◌, ◌*◌, ◌/◌, ◌<◌, ◌≤◌, pos, negsuc, length}
 use Rattle.std.proofs.Common.{arith}
 use Rattle.base.specs.Notation.{clip3}
 use Rattle.wide_filter.specs.Taps.{tap, p, q}
 use Rattle.wide_filter.specs.WideFilter.{sum_to, smoothed}
 
 -- x_0 + .. + x_m
-abbrev sum : List ℕ → ℕ → ℕ
+abbrev pub sum : List ℕ → ℕ → ℕ
 sum x zero = tap x 0
 sum x (suc m) = sum x m + tap x (suc m)
 
 -- the sample x_i where n change on each side, from the side x and the other side y, each counted from the edge
 abbrev pub side : ℕ → List ℕ → List ℕ → ℕ → ℕ
 side n x y i = (tap x n * (i + 1) + (sum x (n - 1) + (n + 1)) + tap x i + sum y (n - 1 - i)) / (2 * (n + 1))
+
+-- the samples of each side, counted from the edge
+abbrev pub p_taps : List ℕ → List ℕ
+p_taps t = p t 0 ∷ p t 1 ∷ p t 2 ∷ p t 3 ∷ p t 4 ∷ p t 5 ∷ p t 6 ∷ p t 7 ∷ []
+
+abbrev pub q_taps : List ℕ → List ℕ
+q_taps t = q t 0 ∷ q t 1 ∷ q t 2 ∷ q t 3 ∷ q t 4 ∷ q t 5 ∷ q t 6 ∷ q t 7 ∷ []
+
+-- each number of a list is at most b
+pub record AtMost (b : ℕ) (x : List ℕ) : Type 0 where
+  pub most : (k : ℕ) → tap x k ≤ b
+
+pub most_none : {b : ℕ} → AtMost b []
+most_none = record { most = λ k. omega arith }
+
+pub most_next : {b x : ℕ} {t : List ℕ} → x < b + 1 → AtMost b t → AtMost b (x ∷ t)
+most_next {b} {x} {t} h f = record { most = cases }
+  where
+    cases : (k : ℕ) → tap (x ∷ t) k ≤ b
+    cases zero = omega arith
+    cases (suc k) = f.most k
+
+-- of a side x and the other y, each of m samples, r has what becomes of x
+pub record Side (m : ℕ) (x y r : List ℕ) : Type 0 where
+  pub long : length r ≡ m
+  pub each : (i : ℕ) → i < m - 1 → tap r i ≡ side (m - 1) x y i
 
 abbrev pub six : ℕ → ℕ → ℕ → ℕ → ℕ → ℕ → ℕ → ℕ → ℕ
 six x3 x2 x1 x0 y0 y1 y2 = side 3 (x0 ∷ x1 ∷ x2 ∷ x3 ∷ []) (y0 ∷ y1 ∷ y2 ∷ [])

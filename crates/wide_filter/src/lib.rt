@@ -1,145 +1,156 @@
 // The wide filter (8.8.5.3). Sums grow from the edge outwards, so that nothing is subtracted.
 #![tactic(auto)]
 
-ghost use Rattle.std.specs.Prelude.{◌≡◌};
+ghost use Rattle.std.specs.Prelude.{◌≡◌, ℕ, ◌+◌, ◌*◌, ◌/◌, ◌<◌, ◌≤◌};
 ghost use Rattle.wide_filter.specs.WideFilter.{wide_filter};
-ghost use Rattle.wide_filter.specs.WideSums.{six, fourteen};
+ghost use Rattle.wide_filter.specs.WideSums.{AtMost, Side, p_taps, q_taps};
 
 pub mod taps;
 
 use taps::*;
 
-// The samples of one side that change, counted from the edge.
-#[derive(Clone, Copy)]
-struct Three {
-    x2: u16,
-    x1: u16,
-    x0: u16,
+// What the sums of one side are formed in: 16 of the samples, each at most `top`, and 8 fit it.
+pub trait Sum: Copy {
+    ghost top: { ℕ };
+
+    ghost value: { Self → ℕ };
+
+    fn of(n: u16) -> Self
+        ensures { value result ≡ n };
+
+    fn plus(self, other: Self) -> Self
+        requires { value self + value other ≤ 16 * top + 8 }
+        ensures { value result ≡ value self + value other };
+
+    fn product(x: u16, n: u16) -> Self
+        requires { x * n ≤ 16 * top + 8 }
+        ensures { value result ≡ x * n };
+
+    fn over(self, n: u16) -> u16
+        requires { value self < n * (top + 1) }
+        ensures { result ≡ value self / n };
 }
 
-#[derive(Clone, Copy)]
-struct Seven {
-    x6: u16,
-    x5: u16,
-    x4: u16,
-    x3: u16,
-    x2: u16,
-    x1: u16,
-    x0: u16,
-}
+// Samples of 12 bits.
+impl Sum for u16 {
+    ghost top = { 4095 };
 
-// One side: x is that side and y the other.
-fn side3(x3: u16, x2: u16, x1: u16, x0: u16, y0: u16, y1: u16, y2: u16) -> Three
-    ensures { (result.x2 ≡ six x3 x2 x1 x0 y0 y1 y2 2) × (result.x1 ≡ six x3 x2 x1 x0 y0 y1 y2 1) × (result.x0 ≡ six x3 x2 x1 x0 y0 y1 y2 0) }
-{
-    let near = x0 as u32 + x1 as u32 + x2 as u32 + 4;
-    let y0 = y0 as u32;
-    let y1 = y0 + y1 as u32;
-    let y2 = y1 + y2 as u32;
-    let x3 = x3 as u32;
-    Three {
-        x2: ((x3 * 3 + near + x2 as u32 + y0) / 8) as u16,
-        x1: ((x3 * 2 + near + x1 as u32 + y1) / 8) as u16,
-        x0: ((x3 * 1 + near + x0 as u32 + y2) / 8) as u16,
+    ghost value = { λ n. n };
+
+    fn of(n: u16) -> u16 {
+        n
+    }
+
+    fn plus(self, other: u16) -> u16 {
+        self + other
+    }
+
+    fn product(x: u16, n: u16) -> u16 {
+        x * n
+    }
+
+    fn over(self, n: u16) -> u16 {
+        self / n
     }
 }
 
-fn side7(
-    x7: u16,
-    x6: u16,
-    x5: u16,
-    x4: u16,
-    x3: u16,
-    x2: u16,
-    x1: u16,
-    x0: u16,
-    y0: u16,
-    y1: u16,
-    y2: u16,
-    y3: u16,
-    y4: u16,
-    y5: u16,
-    y6: u16,
-) -> Seven
-    ensures { (result.x6 ≡ fourteen x7 x6 x5 x4 x3 x2 x1 x0 y0 y1 y2 y3 y4 y5 y6 6) × (result.x5 ≡ fourteen x7 x6 x5 x4 x3 x2 x1 x0 y0 y1 y2 y3 y4 y5 y6 5) × (result.x4 ≡ fourteen x7 x6 x5 x4 x3 x2 x1 x0 y0 y1 y2 y3 y4 y5 y6 4) × (result.x3 ≡ fourteen x7 x6 x5 x4 x3 x2 x1 x0 y0 y1 y2 y3 y4 y5 y6 3) × (result.x2 ≡ fourteen x7 x6 x5 x4 x3 x2 x1 x0 y0 y1 y2 y3 y4 y5 y6 2) × (result.x1 ≡ fourteen x7 x6 x5 x4 x3 x2 x1 x0 y0 y1 y2 y3 y4 y5 y6 1) × (result.x0 ≡ fourteen x7 x6 x5 x4 x3 x2 x1 x0 y0 y1 y2 y3 y4 y5 y6 0) }
-{
-    let inner = x0 as u32 + x1 as u32 + x2 as u32 + x3 as u32;
-    let near = inner + x4 as u32 + x5 as u32 + x6 as u32 + 8;
-    let y0 = y0 as u32;
-    let y1 = y0 + y1 as u32;
-    let y2 = y1 + y2 as u32;
-    let y3 = y2 + y3 as u32;
-    let y4 = y3 + y4 as u32;
-    let y5 = y4 + y5 as u32;
-    let y6 = y5 + y6 as u32;
-    let x7 = x7 as u32;
-    Seven {
-        x6: ((x7 * 7 + near + x6 as u32 + y0) / 16) as u16,
-        x5: ((x7 * 6 + near + x5 as u32 + y1) / 16) as u16,
-        x4: ((x7 * 5 + near + x4 as u32 + y2) / 16) as u16,
-        x3: ((x7 * 4 + near + x3 as u32 + y3) / 16) as u16,
-        x2: ((x7 * 3 + near + x2 as u32 + y4) / 16) as u16,
-        x1: ((x7 * 2 + near + x1 as u32 + y5) / 16) as u16,
-        x0: ((x7 * 1 + near + x0 as u32 + y6) / 16) as u16,
+// Any samples.
+impl Sum for u32 {
+    ghost top = { 65535 };
+
+    ghost value = { λ n. n };
+
+    fn of(n: u16) -> u32 {
+        n as u32
     }
+
+    fn plus(self, other: u32) -> u32 {
+        self + other
+    }
+
+    fn product(x: u16, n: u16) -> u32 {
+        x as u32 * n as u32
+    }
+
+    fn over(self, n: u16) -> u16 {
+        (self / n as u32) as u16
+    }
+}
+
+// The samples of one side as the filter leaves them. x is that side and y the other, each counted from the edge; the last
+// of the M samples stays.
+pub fn side<S: Sum, const M: usize>(x: [u16; M], y: [u16; M]) -> [u16; M]
+    requires few { (0 < M) × (M ≤ 8) }
+    requires small { AtMost S.top x × AtMost S.top y }
+    ensures { Side M x.entry y.entry result }
+{
+    let n = M - 1;
+    let mut near = S::of(M as u16);
+    for k in 0..n {
+        near = near.plus(S::of(x[k]));
+    }
+    let mut far = S::of(0);
+    let mut r = x;
+    for k in 0..n {
+        far = far.plus(S::of(y[k]));
+        let i = n - 1 - k;
+        let outer = S::product(x[n], (i + 1) as u16);
+        let sum = outer.plus(near).plus(S::of(x[i])).plus(far);
+        r[i] = sum.over(2 * M as u16);
+    }
+    r
 }
 
 // The six samples around the edge.
 pub fn wide_filter_six(t: &mut [u16; 16])
     ensures { t.new ≡ wide_filter 3 t.old }
 {
-    let p3 = t[P3];
-    let p2 = t[P2];
-    let p1 = t[P1];
-    let p0 = t[P0];
-    let q0 = t[Q0];
-    let q1 = t[Q1];
-    let q2 = t[Q2];
-    let q3 = t[Q3];
-    let p = side3(p3, p2, p1, p0, q0, q1, q2);
-    let q = side3(q3, q2, q1, q0, p0, p1, p2);
-    t[P2] = p.x2;
-    t[P1] = p.x1;
-    t[P0] = p.x0;
-    t[Q0] = q.x0;
-    t[Q1] = q.x1;
-    t[Q2] = q.x2;
+    let p = [t[P0], t[P1], t[P2], t[P3]];
+    let q = [t[Q0], t[Q1], t[Q2], t[Q3]];
+    let a = side::<u32, 4>(p, q);
+    let b = side::<u32, 4>(q, p);
+    t[P2] = a[2];
+    t[P1] = a[1];
+    t[P0] = a[0];
+    t[Q0] = b[0];
+    t[Q1] = b[1];
+    t[Q2] = b[2];
+}
+
+// The samples of a side, counted from the edge.
+
+fn p_side(t: &[u16; 16]) -> [u16; 8]
+    ensures { (result ≡ p_taps t.now) × AtMost 65535 result }
+{
+    [t[P0], t[P1], t[P2], t[P3], t[P4], t[P5], t[P6], t[P7]]
+}
+
+fn q_side(t: &[u16; 16]) -> [u16; 8]
+    ensures { (result ≡ q_taps t.now) × AtMost 65535 result }
+{
+    [t[Q0], t[Q1], t[Q2], t[Q3], t[Q4], t[Q5], t[Q6], t[Q7]]
 }
 
 // The fourteen samples around the edge.
 pub fn wide_filter_fourteen(t: &mut [u16; 16])
     ensures { t.new ≡ wide_filter 4 t.old }
 {
-    let p7 = t[P7];
-    let p6 = t[P6];
-    let p5 = t[P5];
-    let p4 = t[P4];
-    let p3 = t[P3];
-    let p2 = t[P2];
-    let p1 = t[P1];
-    let p0 = t[P0];
-    let q0 = t[Q0];
-    let q1 = t[Q1];
-    let q2 = t[Q2];
-    let q3 = t[Q3];
-    let q4 = t[Q4];
-    let q5 = t[Q5];
-    let q6 = t[Q6];
-    let q7 = t[Q7];
-    let p = side7(p7, p6, p5, p4, p3, p2, p1, p0, q0, q1, q2, q3, q4, q5, q6);
-    let q = side7(q7, q6, q5, q4, q3, q2, q1, q0, p0, p1, p2, p3, p4, p5, p6);
-    t[P6] = p.x6;
-    t[P5] = p.x5;
-    t[P4] = p.x4;
-    t[P3] = p.x3;
-    t[P2] = p.x2;
-    t[P1] = p.x1;
-    t[P0] = p.x0;
-    t[Q0] = q.x0;
-    t[Q1] = q.x1;
-    t[Q2] = q.x2;
-    t[Q3] = q.x3;
-    t[Q4] = q.x4;
-    t[Q5] = q.x5;
-    t[Q6] = q.x6;
+    let p = p_side(t);
+    let q = q_side(t);
+    let a = side::<u32, 8>(p, q);
+    let b = side::<u32, 8>(q, p);
+    t[P6] = a[6];
+    t[P5] = a[5];
+    t[P4] = a[4];
+    t[P3] = a[3];
+    t[P2] = a[2];
+    t[P1] = a[1];
+    t[P0] = a[0];
+    t[Q0] = b[0];
+    t[Q1] = b[1];
+    t[Q2] = b[2];
+    t[Q3] = b[3];
+    t[Q4] = b[4];
+    t[Q5] = b[5];
+    t[Q6] = b[6];
 }

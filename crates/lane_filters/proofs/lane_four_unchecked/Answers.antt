@@ -5,9 +5,10 @@ use Rattle.lane_filters.proofs.lane_four_unchecked.Goals as goal
 
 pub returns-then-not-lane_mask_unchecked : goal.returns-then-not-lane_mask_unchecked
 returns-then-not-lane_mask_unchecked c =
-    let m = c.before in
+    let m = c.before.before in
     let a = m.args in
-    filters_none a.depth 0 a.limit a.blimit a.thresh (samples_of a.a) (sym m.lane_mask_unchecked.ensures ∙ c.if-not-lane_mask_unchecked.true)
+    rw c.four.ensures
+    (filters_none a.depth 0 a.limit a.blimit a.thresh (samples_of a.a) (sym m.lane_mask_unchecked.ensures ∙ c.before.if-not-lane_mask_unchecked.true))
 
 pub returns : goal.returns
 returns c =
@@ -16,19 +17,3 @@ returns c =
     let a = m.args in
     (rw (hev.hev_mask-hev.ensures, hev.scaled.ensures.0) at c.narrow_filter.ensures)
     ∙ filters_narrow a.depth 0 a.limit a.blimit a.thresh (samples_of a.a) (sym m.lane_mask_unchecked.ensures ∙ hev.if-not-lane_mask_unchecked.false) refl
-
-pub lane_mask_unchecked-requires : goal.lane_mask_unchecked-requires
-lane_mask_unchecked-requires c =
-    c.requires
-
-pub scaled-requires : goal.scaled-requires
-scaled-requires c =
-    c.requires.0
-
-pub hev_mask-hev-requires : goal.hev_mask-hev-requires
-hev_mask-hev-requires c =
-    tt
-
-pub narrow_filter-requires : goal.narrow_filter-requires
-narrow_filter-requires c =
-    c.requires

@@ -9,9 +9,10 @@ use Rattle.lane_filters.proofs.lane_six_unchecked.Goals as goal
 
 pub returns-then-not-lane_mask_unchecked : goal.returns-then-not-lane_mask_unchecked
 returns-then-not-lane_mask_unchecked c =
-    let m = c.before in
+    let m = c.before.before in
     let a = m.args in
-    filters_none a.depth 1 a.limit a.blimit a.thresh (samples_of a.a) (sym m.lane_mask_unchecked.ensures ∙ c.if-not-lane_mask_unchecked.true)
+    rw c.six.ensures
+    (filters_none a.depth 1 a.limit a.blimit a.thresh (samples_of a.a) (sym m.lane_mask_unchecked.ensures ∙ c.before.if-not-lane_mask_unchecked.true))
 
 pub returns-then-not-flat_mask : goal.returns-then-not-flat_mask
 returns-then-not-flat_mask c =
@@ -34,35 +35,3 @@ returns c =
     let smooth : not (flat_mask (scaled a.depth 1) (samples_of a.a)) ≡ false = not_from_true _ (rw (flat.flat_mask.ensures, flat.scaled.ensures.0) at at-if2.if-not-flat_mask.false) in
     c.wide_six_unchecked.ensures
     ∙ filters-six a.depth 1 a.limit a.blimit a.thresh (samples_of a.a) (sym m.lane_mask_unchecked.ensures ∙ flat.if-not-lane_mask_unchecked.false) smooth refl
-
-pub lane_mask_unchecked-requires : goal.lane_mask_unchecked-requires
-lane_mask_unchecked-requires c =
-    c.requires
-
-pub scaled-requires : goal.scaled-requires
-scaled-requires c =
-    c.requires.0
-
-pub flat_mask-requires : goal.flat_mask-requires
-flat_mask-requires c =
-    tt
-
-pub scaled-requires-then-not-flat_mask : goal.scaled-requires-then-not-flat_mask
-scaled-requires-then-not-flat_mask c =
-    c.requires.0
-
-pub hev_mask-hev-requires : goal.hev_mask-hev-requires
-hev_mask-hev-requires c =
-    tt
-
-pub narrow_filter-requires : goal.narrow_filter-requires
-narrow_filter-requires c =
-    c.requires
-
-pub with_four-requires : goal.with_four-requires
-with_four-requires c =
-    tt
-
-pub wide_six_unchecked-requires : goal.wide_six_unchecked-requires
-wide_six_unchecked-requires c =
-    c.requires.1

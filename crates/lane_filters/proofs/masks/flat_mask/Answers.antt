@@ -3,4 +3,4 @@ use Rattle.lane_filters.proofs.masks.flat_mask.Goals as goal
 
 pub returns : goal.returns
 unfolding flat_mask flat_at
-returns c = rw (c.flat_at-3.ensures, c.flat_at-2.ensures, c.flat_at.ensures)
+returns g c = rw (c.flat_at-3.ensures, c.flat_at-2.ensures, c.flat_at.ensures)

@@ -3,5 +3,5 @@ use Rattle.lane_filters.proofs.masks.flat_mask2.Goals as goal
 
 pub returns : goal.returns
 unfolding flat_mask2 flat_at
-returns c =
+returns g c =
     rw (c.flat_at-4.ensures, c.flat_at-3.ensures, c.flat_at-2.ensures, c.flat_at.ensures)

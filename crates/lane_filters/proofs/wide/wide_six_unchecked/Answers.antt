@@ -1,9 +1,26 @@
+use Rattle.std.proofs.Common.{arith}
+use Rattle.wide_filter.specs.Taps.{tap}
 use Rattle.wide_filter.proofs.WideSums.{wide_six}
+use Rattle.lane_filters.proofs.SmallSides.{p_four, q_four}
 use Rattle.lane_filters.specs.LaneSamples.{samples_of}
 use Rattle.lane_filters.proofs.wide.wide_six_unchecked.Goals as goal
 
+pub side-r-requires : goal.side-r-requires
+side-r-requires c =
+    let a = c.args.a in
+    let s = c.requires in
+    (omega arith, ((omega arith, omega arith), (p_four a s, q_four a s)))
+
+pub side-s-requires : goal.side-s-requires
+side-s-requires c =
+    let a = c.args.a in
+    let s = c.requires in
+    (omega arith, ((omega arith, omega arith), (q_four a s, p_four a s)))
+
 pub returns : goal.returns
 returns c =
-    let p = c.side3-p in
-    let q = c.side3-q in
-    wide_six (samples_of c.args.a) p.result.x2 p.result.x1 p.result.x0 q.result.x0 q.result.x1 q.result.x2 p.ensures.0 p.ensures.1 p.ensures.2 q.ensures.2 q.ensures.1 q.ensures.0
+    let r = c.side-r.result in
+    let s = c.side-s.result in
+    let a = c.side-r.ensures in
+    let b = c.side-s.ensures in
+    wide_six (samples_of c.args.a) (tap r 2) (tap r 1) (tap r 0) (tap s 0) (tap s 1) (tap s 2) (a.each 2 (omega arith)) (a.each 1 (omega arith)) (a.each 0 (omega arith)) (b.each 0 (omega arith)) (b.each 1 (omega arith)) (b.each 2 (omega arith))
