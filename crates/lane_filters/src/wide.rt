@@ -4,7 +4,7 @@ ghost use Rattle.wide_filter.specs.WideFilter.{wide_filter};
 ghost use Rattle.lane_filters.specs.LaneSamples.{samples_of, six_of, fourteen_of, put_taps, Small};
 
 use crate::{Lane, Six};
-use wide_filter::side;
+use wide_filter::side_unchecked;
 
 // The six samples around the edge.
 pub fn wide_six_unchecked(a: Lane<u16>) -> Six<u16>
@@ -13,8 +13,8 @@ pub fn wide_six_unchecked(a: Lane<u16>) -> Six<u16>
 {
     let p = [a.p0, a.p1, a.p2, a.p3];
     let q = [a.q0, a.q1, a.q2, a.q3];
-    let r = side::<u16, 4>(p, q);
-    let s = side::<u16, 4>(q, p);
+    let r = side_unchecked::<u16, 4>(p, q);
+    let s = side_unchecked::<u16, 4>(q, p);
     Six {
         p2: r[2],
         p1: r[1],
@@ -32,8 +32,8 @@ pub fn wide_fourteen_unchecked(a: Lane<u16>) -> Lane<u16>
 {
     let p = [a.p0, a.p1, a.p2, a.p3, a.p4, a.p5, a.p6, a.p7];
     let q = [a.q0, a.q1, a.q2, a.q3, a.q4, a.q5, a.q6, a.q7];
-    let r = side::<u16, 8>(p, q);
-    let s = side::<u16, 8>(q, p);
+    let r = side_unchecked::<u16, 8>(p, q);
+    let s = side_unchecked::<u16, 8>(q, p);
     Lane {
         p7: a.p7,
         p6: r[6],

@@ -1,7 +1,8 @@
 -- Laws of lanes: what a store to one lane does to it and to the others.
 -- Assumes nothing.
-use Rattle.std.specs.Prelude.{◌≡◌, refl, ◌≢◌, Bool, true, false, ◌&&◌, List, [], ◌∷◌, ℕ, zero, suc, ◌+◌, ◌*◌, ◌<◌, ◌≤◌, ltb, length, set}
+use Rattle.std.specs.Prelude.{◌≡◌, refl, ◌≢◌, Bool, true, false, ◌&&◌, List, [], ◌∷◌, ℕ, zero, suc, ◌+◌, ◌*◌, ◌<◌, ◌≤◌, ltb, length, get_or, set}
 use Rattle.std.proofs.Common.{sym, ap, ◌∙◌, ⊎_elim, arith, length-set, get_or-set_same, get_or-set_other, ext_get_or, lt-ltb}
+use Rattle.std.proofs.lemmas.Grind.{get_or_default_zero}
 use Rattle.base.specs.Depth.{scaled}
 use Rattle.base.specs.NotationLaws.{split}
 use Rattle.lane_filters.specs.LaneSamples.{samples_of, put_taps, Small}
@@ -10,7 +11,7 @@ use Rattle.line.specs.Masks.{filter_mask}
 use Rattle.line.specs.SampleFiltering.{sample_filtering}
 use Rattle.line.specs.SampleFilteringLaws.{filters_none}
 use Rattle.wide_filter.specs.Taps.{tap}
-use Rattle.lanes.specs.Lanes.{lane_at, lane_of, put_lane, Table, EachLane, EachLaneTo, Lanes, NoneTo}
+use Rattle.lanes.specs.Lanes.{lane_at, lane_in, lane_of, put_lane, Table, EachLane, EachLaneTo, Lanes, NoneTo}
 
 pub lane_length : (t : List ℕ) (l : ℕ) → length (lane_of t l) ≡ 16
 unfolding lane_of
@@ -122,7 +123,18 @@ lanes_all h inv = record { each = λ l b. inv.done l (omega arith) }
 
 -- ---- samples of 12 bits
 
-pub lane_samples : {a : Lane} (t : List ℕ) (l : ℕ) → a ≡ lane_at t l → samples_of a ≡ lane_of t l
+-- what is read of a whole table is the lane
+pub lane_found : {a : Lane ℕ} (t : List ℕ) (l : ℕ) → length t ≡ 256 → l < 16 → a ≡ lane_in t l a → a ≡ lane_at t l
+lane_found {a} t l n h is = is ∙ whole
+  where
+    at : (i d : ℕ) → i < 256 → get_or t i d ≡ tap t i
+    at i d b = get_or_default_zero t i d (omega arith)
+
+    whole : lane_in t l a ≡ lane_at t l
+    whole =
+        λ i. record { p7 = at l a.p7 (omega arith) i; p6 = at (16 + l) a.p6 (omega arith) i; p5 = at (32 + l) a.p5 (omega arith) i; p4 = at (48 + l) a.p4 (omega arith) i; p3 = at (64 + l) a.p3 (omega arith) i; p2 = at (80 + l) a.p2 (omega arith) i; p1 = at (96 + l) a.p1 (omega arith) i; p0 = at (112 + l) a.p0 (omega arith) i; q0 = at (128 + l) a.q0 (omega arith) i; q1 = at (144 + l) a.q1 (omega arith) i; q2 = at (160 + l) a.q2 (omega arith) i; q3 = at (176 + l) a.q3 (omega arith) i; q4 = at (192 + l) a.q4 (omega arith) i; q5 = at (208 + l) a.q5 (omega arith) i; q6 = at (224 + l) a.q6 (omega arith) i; q7 = at (240 + l) a.q7 (omega arith) i }
+
+pub lane_samples : {a : Lane ℕ} (t : List ℕ) (l : ℕ) → a ≡ lane_at t l → samples_of a ≡ lane_of t l
 unfolding lane_of
 lane_samples t l is = ap samples_of is
 
@@ -131,7 +143,7 @@ small_at t l h s =
     record { p7 = s.small l (omega arith); p6 = s.small (16 + l) (omega arith); p5 = s.small (32 + l) (omega arith); p4 = s.small (48 + l) (omega arith); p3 = s.small (64 + l) (omega arith); p2 = s.small (80 + l) (omega arith); p1 = s.small (96 + l) (omega arith); p0 = s.small (112 + l) (omega arith); q0 = s.small (128 + l) (omega arith); q1 = s.small (144 + l) (omega arith); q2 = s.small (160 + l) (omega arith); q3 = s.small (176 + l) (omega arith); q4 = s.small (192 + l) (omega arith); q5 = s.small (208 + l) (omega arith); q6 = s.small (224 + l) (omega arith); q7 = s.small (240 + l) (omega arith) }
 
 -- the lane that a line's samples name
-named : List ℕ → Lane
+named : List ℕ → Lane ℕ
 named t =
     record { p7 = tap t 0; p6 = tap t 1; p5 = tap t 2; p4 = tap t 3; p3 = tap t 4; p2 = tap t 5; p1 = tap t 6; p0 = tap t 7; q0 = tap t 8; q1 = tap t 9; q2 = tap t 10; q3 = tap t 11; q4 = tap t 12; q5 = tap t 13; q6 = tap t 14; q7 = tap t 15 }
 
@@ -150,7 +162,7 @@ module _ (n depth limit blimit : ℕ) where
   pub none_none : (t : List ℕ) → NoneTo 0 n depth limit blimit t
   none_none t = record { none = λ l b g. absurd (omega arith) }
 
-  pub none_more : {a : Lane} (m : ℕ) (t : List ℕ) → a ≡ lane_at t m → filter_mask (scaled depth limit) (scaled depth blimit) (samples_of a) && ltb m n ≡ false → NoneTo m n depth limit blimit t → NoneTo (m + 1) n depth limit blimit t
+  pub none_more : {a : Lane ℕ} (m : ℕ) (t : List ℕ) → a ≡ lane_at t m → filter_mask (scaled depth limit) (scaled depth blimit) (samples_of a) && ltb m n ≡ false → NoneTo m n depth limit blimit t → NoneTo (m + 1) n depth limit blimit t
   none_more {a} m t is e g = record {
     none = λ l b d. ⊎_elim (λ (x : l < m). g.none l x d) (λ (x : m ≤ l). let y : l ≡ m = omega arith in rw y (last (omega arith))) (split l m);
   }

@@ -79,7 +79,7 @@ impl Sum for u32 {
 
 // The samples of one side as the filter leaves them. x is that side and y the other, each counted from the edge; the last
 // of the M samples stays.
-pub fn side<S: Sum, const M: usize>(x: [u16; M], y: [u16; M]) -> [u16; M]
+pub fn side_unchecked<S: Sum, const M: usize>(x: [u16; M], y: [u16; M]) -> [u16; M]
     requires few { (0 < M) × (M ≤ 8) }
     requires small { AtMost S.top x × AtMost S.top y }
     ensures { Side M x.entry y.entry result }
@@ -107,8 +107,8 @@ pub fn wide_filter_six(t: &mut [u16; 16])
 {
     let p = [t[P0], t[P1], t[P2], t[P3]];
     let q = [t[Q0], t[Q1], t[Q2], t[Q3]];
-    let a = side::<u32, 4>(p, q);
-    let b = side::<u32, 4>(q, p);
+    let a = side_unchecked::<u32, 4>(p, q);
+    let b = side_unchecked::<u32, 4>(q, p);
     t[P2] = a[2];
     t[P1] = a[1];
     t[P0] = a[0];
@@ -137,8 +137,8 @@ pub fn wide_filter_fourteen(t: &mut [u16; 16])
 {
     let p = p_side(t);
     let q = q_side(t);
-    let a = side::<u32, 8>(p, q);
-    let b = side::<u32, 8>(q, p);
+    let a = side_unchecked::<u32, 8>(p, q);
+    let b = side_unchecked::<u32, 8>(q, p);
     t[P6] = a[6];
     t[P5] = a[5];
     t[P4] = a[4];

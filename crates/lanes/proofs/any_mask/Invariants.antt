@@ -1,11 +1,7 @@
 use mathlib.Core.Path.{◌≡◌}
 use mathlib.Core.Bool.{false}
-use Prim.Native.Nat.{◌-◌, ◌≤◌}
 use Rattle.lanes.specs.Lanes.{NoneTo}
 use Rattle.lanes.proofs.any_mask.Given as goal
 
 abbrev pub invariant-loop-l : goal.invariant-loop-l
-invariant-loop-l l = (l.l ≤ l.m) × (l.on ≡ false → NoneTo l.l l.n l.depth l.limit l.blimit l.t)
-
-abbrev pub decreases-loop-l : goal.decreases-loop-l
-decreases-loop-l l = l.m - l.l
+invariant-loop-l l = l.on ≡ false → NoneTo l.l l.n l.depth l.limit l.blimit l.t

@@ -32,27 +32,3 @@ returns c =
     let whole = c in
     let two : whole.args.size ≡ 2 = omega arith in
     (rw two (lanes_fewer whole.whole-m.ensures.0 c.lanes_fourteen.ensures), unasked)
-
-pub whole-m-requires : goal.whole-m-requires
-whole-m-requires c =
-    search rules
-
-pub overflow_cast-n : goal.overflow_cast-n
-overflow_cast-n c =
-    search rules
-
-pub any_mask-requires : goal.any_mask-requires
-any_mask-requires c =
-    search rules
-
-pub lanes_four-requires : goal.lanes_four-requires
-lanes_four-requires c =
-    search rules
-
-pub lanes_six-requires : goal.lanes_six-requires
-lanes_six-requires c =
-    search rules
-
-pub lanes_fourteen-requires : goal.lanes_fourteen-requires
-lanes_fourteen-requires c =
-    search rules

@@ -5,22 +5,22 @@ use Rattle.lane_filters.proofs.SmallSides.{p_four, q_four}
 use Rattle.lane_filters.specs.LaneSamples.{samples_of}
 use Rattle.lane_filters.proofs.wide.wide_six_unchecked.Goals as goal
 
-pub side-r-requires : goal.side-r-requires
-side-r-requires c =
+pub side_unchecked-r-requires : goal.side_unchecked-r-requires
+side_unchecked-r-requires c =
     let a = c.args.a in
     let s = c.requires in
     (omega arith, ((omega arith, omega arith), (p_four a s, q_four a s)))
 
-pub side-s-requires : goal.side-s-requires
-side-s-requires c =
+pub side_unchecked-s-requires : goal.side_unchecked-s-requires
+side_unchecked-s-requires c =
     let a = c.args.a in
     let s = c.requires in
     (omega arith, ((omega arith, omega arith), (q_four a s, p_four a s)))
 
 pub returns : goal.returns
 returns c =
-    let r = c.side-r.result in
-    let s = c.side-s.result in
-    let a = c.side-r.ensures in
-    let b = c.side-s.ensures in
+    let r = c.side_unchecked-r.result in
+    let s = c.side_unchecked-s.result in
+    let a = c.side_unchecked-r.ensures in
+    let b = c.side_unchecked-s.ensures in
     wide_six (samples_of c.args.a) (tap r 2) (tap r 1) (tap r 0) (tap s 0) (tap s 1) (tap s 2) (a.each 2 (omega arith)) (a.each 1 (omega arith)) (a.each 0 (omega arith)) (b.each 0 (omega arith)) (b.each 1 (omega arith)) (b.each 2 (omega arith))

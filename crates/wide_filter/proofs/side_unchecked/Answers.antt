@@ -2,7 +2,7 @@ use Rattle.std.proofs.Common.{◌≡◌, ◌+◌, ◌-◌, ◌*◌, ◌/◌, ◌
 use Rattle.wide_filter.specs.Taps.{tap}
 use Rattle.wide_filter.specs.WideSums.{side}
 use Rattle.wide_filter.proofs.SideSums.{total, total_more, near_fits, sum_of, Whole, whole, whole_side, side_more}
-use Rattle.wide_filter.proofs.side.Goals as goal
+use Rattle.wide_filter.proofs.side_unchecked.Goals as goal
 
 -- what is known of the sums of a sample
 sums : (g : _) (c : goal.After-product-outer g) → Whole g.S.Sum.top g.row.M c.loop-k-2.k c.args.x c.args.y

@@ -2,7 +2,7 @@ use Rattle.std.proofs.Common.{◌≡◌, ◌<◌, ◌≤◌, ◌+◌, ◌-◌, l
 use Rattle.wide_filter.specs.Taps.{tap}
 use Rattle.wide_filter.specs.WideSums.{side}
 use Rattle.wide_filter.proofs.SideSums.{total}
-use Rattle.wide_filter.proofs.side.Given as goal
+use Rattle.wide_filter.proofs.side_unchecked.Given as goal
 
 abbrev pub invariant-loop-k : goal.invariant-loop-k
 invariant-loop-k g l = g.S.Sum.value l.near ≡ g.row.M + total l.x l.k
