@@ -25,7 +25,7 @@ pub below_within : {b : ℕ} {t : List ℕ} → Below b t → Within b t
 below_within f = record { below = λ k h. f.below k }
 
 -- a lane of bytes is small
-pub bytes_small : (a : Lane) → Within 256 (samples_of a) → Small a
+pub bytes_small : (a : Lane ℕ) → Within 256 (samples_of a) → Small a
 bytes_small a w = record { p7 = at 0 (omega arith); p6 = at 1 (omega arith); p5 = at 2 (omega arith); p4 = at 3 (omega arith); p3 = at 4 (omega arith); p2 = at 5 (omega arith); p1 = at 6 (omega arith); p0 = at 7 (omega arith); q0 = at 8 (omega arith); q1 = at 9 (omega arith); q2 = at 10 (omega arith); q3 = at 11 (omega arith); q4 = at 12 (omega arith); q5 = at 13 (omega arith); q6 = at 14 (omega arith); q7 = at 15 (omega arith) }
   where
     at : (k : ℕ) → k < 16 → tap (samples_of a) k < 4096

@@ -1,5 +1,5 @@
 // The limits of a level (8.8.4).
-ghost use Rattle.std.specs.Prelude.{◌≡◌, ◌+◌, ◌*◌, ◌≤◌, ◌<◌, min};
+ghost use Rattle.std.specs.Prelude.{◌≡◌, ◌+◌, ◌*◌, ◌≤◌, ◌<◌};
 ghost use Rattle.strength.specs.Strength.{shift, limit_of};
 ghost use Rattle.byte_filters.specs.TopLimit.{top_limit};
 
@@ -20,18 +20,11 @@ fn top_of(sharpness: u8) -> u8
     if sharpness == 0 { 63 } else { 9 - sharpness }
 }
 
-fn least(x: u8, y: u8) -> u8
-    ensures { result ≡ min x y }
-{
-    if x < y { x } else { y }
-}
-
 pub(crate) fn limit_of(level: u8, sharpness: u8) -> u8
     requires { (level ≤ 63) × (sharpness ≤ 7) }
     ensures { (result ≡ limit_of level sharpness) × (result ≤ 63) }
 {
-    let limit = least(level >> shift_of(sharpness), top_of(sharpness));
-    if limit < 1 { 1 } else { limit }
+    (level >> shift_of(sharpness)).min(top_of(sharpness)).max(1)
 }
 
 pub(crate) fn blimit_of(level: u8, limit: u8) -> u8

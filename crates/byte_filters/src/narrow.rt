@@ -1,18 +1,18 @@
 // The narrow filter (8.8.5.4) on bytes: each value is raised by half its range, and sums and differences stop at the ends of a byte.
 ghost use Rattle.std.specs.Prelude.{◌≡◌, ◌<◌};
 ghost use Rattle.line.specs.NarrowFilter.{narrow_filter};
-ghost use Rattle.lane_filters.specs.LaneSamples.{put_taps};
+ghost use Rattle.lane_filters.specs.LaneSamples.{samples_of, four_of, put_taps};
 ghost use Rattle.lane_filters.specs.RaisedFilter.{raised_base, raised_filter, raised_eighth, raised_half, increased, decreased};
-ghost use Rattle.byte_filters.specs.ByteSamples.{bytes_of, byte_four_of};
 
-use crate::saturating::{less, more};
-use crate::{ByteFour, ByteLane};
+use lane_filters::{Four, Lane};
 
 // Step 2, raised by 128: the outer taps count where the variance is high.
 fn filter_base(p1: u8, q1: u8, hev: bool) -> u8
     ensures { result ≡ raised_base 1 hev p1 q1 }
 {
-    let base = less(more(128, less(p1, q1)), less(q1, p1));
+    let base = 128u8
+        .saturating_add(p1.saturating_sub(q1))
+        .saturating_sub(q1.saturating_sub(p1));
     if hev { base } else { 128 }
 }
 
@@ -20,19 +20,23 @@ fn filter_base(p1: u8, q1: u8, hev: bool) -> u8
 fn filter_value(base: u8, p0: u8, q0: u8) -> u8
     ensures { result ≡ raised_filter 1 base p0 q0 }
 {
-    let up = less(q0, p0);
-    let down = less(p0, q0);
-    less(
-        less(less(more(more(more(base, up), up), up), down), down),
-        down,
-    )
+    let up = q0.saturating_sub(p0);
+    let down = p0.saturating_sub(q0);
+    let raised = base
+        .saturating_add(up)
+        .saturating_add(up)
+        .saturating_add(up);
+    raised
+        .saturating_sub(down)
+        .saturating_sub(down)
+        .saturating_sub(down)
 }
 
 // c( filter + n ) >> 3, raised by 16.
 fn eighth(filter: u8, n: u8) -> u8
     ensures { (result ≡ raised_eighth 1 filter n) × (result < 32) }
 {
-    more(filter, n) / 8
+    filter.saturating_add(n) / 8
 }
 
 // Round2( filter, 1 ), raised by 8.
@@ -48,17 +52,19 @@ fn rounded_half(filter: u8) -> u8
 fn increased(x: u8, value: u8, k: u8) -> u8
     ensures { result ≡ increased 1 x value k }
 {
-    less(more(x, less(value, k)), less(k, value))
+    x.saturating_add(value.saturating_sub(k))
+        .saturating_sub(k.saturating_sub(value))
 }
 
 fn decreased(x: u8, value: u8, k: u8) -> u8
     ensures { result ≡ decreased 1 x value k }
 {
-    less(more(x, less(k, value)), less(value, k))
+    x.saturating_add(k.saturating_sub(value))
+        .saturating_sub(value.saturating_sub(k))
 }
 
-pub(crate) fn narrow_filter(a: ByteLane, hev: bool) -> ByteFour
-    ensures { put_taps (bytes_of a) 6 (byte_four_of result) ≡ narrow_filter 8 hev (bytes_of a) }
+pub(crate) fn narrow_filter(a: Lane<u8>, hev: bool) -> Four<u8>
+    ensures { put_taps (samples_of a) 6 (four_of result) ≡ narrow_filter 8 hev (samples_of a) }
 {
     let base = filter_base(a.p1, a.q1, hev);
     let filter = filter_value(base, a.p0, a.q0);
@@ -67,7 +73,7 @@ pub(crate) fn narrow_filter(a: ByteLane, hev: bool) -> ByteFour
     let p0 = increased(a.p0, filter2, 16);
     let q0 = decreased(a.q0, filter1, 16);
     if hev {
-        return ByteFour {
+        return Four {
             p1: a.p1,
             p0,
             q0,
@@ -77,5 +83,5 @@ pub(crate) fn narrow_filter(a: ByteLane, hev: bool) -> ByteFour
     let rounded = rounded_half(filter1);
     let p1 = increased(a.p1, rounded, 8);
     let q1 = decreased(a.q1, rounded, 8);
-    ByteFour { p1, p0, q0, q1 }
+    Four { p1, p0, q0, q1 }
 }

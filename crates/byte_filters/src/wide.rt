@@ -1,13 +1,11 @@
 // The wide filter (8.8.5.3) on bytes. Its sums take 16 bits: the lane is widened, and what it gives is made bytes again.
 ghost use Rattle.std.specs.Prelude.{◌≡◌, ◌<◌};
-ghost use Rattle.lane_filters.specs.LaneSamples.{samples_of, put_taps};
+ghost use Rattle.lane_filters.specs.LaneSamples.{samples_of, six_of, fourteen_of, put_taps};
 ghost use Rattle.wide_filter.specs.Taps.{Within};
 ghost use Rattle.wide_filter.specs.WideFilter.{wide_filter};
-ghost use Rattle.byte_filters.specs.ByteSamples.{bytes_of, byte_six_of, byte_fourteen_of};
 
-use crate::{ByteLane, ByteSix};
-use lane_filters::Lane;
 use lane_filters::wide::{wide_fourteen_unchecked, wide_six_unchecked};
+use lane_filters::{Lane, Six};
 
 fn wide(x: u8) -> u16
     ensures { (result ≡ x) × (result < 256) }
@@ -15,8 +13,8 @@ fn wide(x: u8) -> u16
     x as u16
 }
 
-fn widened(a: ByteLane) -> Lane
-    ensures { (samples_of result ≡ bytes_of a) × Within 256 (samples_of result) }
+fn widened(a: Lane<u8>) -> Lane<u16>
+    ensures { (samples_of result ≡ samples_of a) × Within 256 (samples_of result) }
 {
     Lane {
         p7: wide(a.p7),
@@ -40,11 +38,11 @@ fn widened(a: ByteLane) -> Lane
 
 // Each sample is a mean of bytes, which is a byte.
 
-pub(crate) fn wide_six(a: ByteLane) -> ByteSix
-    ensures { put_taps (bytes_of a) 5 (byte_six_of result) ≡ wide_filter 3 (bytes_of a) }
+pub(crate) fn wide_six(a: Lane<u8>) -> Six<u8>
+    ensures { put_taps (samples_of a) 5 (six_of result) ≡ wide_filter 3 (samples_of a) }
 {
     let r = wide_six_unchecked(widened(a));
-    ByteSix {
+    Six {
         p2: r.p2 as u8,
         p1: r.p1 as u8,
         p0: r.p0 as u8,
@@ -54,11 +52,11 @@ pub(crate) fn wide_six(a: ByteLane) -> ByteSix
     }
 }
 
-pub(crate) fn wide_fourteen(a: ByteLane) -> ByteLane
-    ensures { put_taps (bytes_of a) 1 (byte_fourteen_of result) ≡ wide_filter 4 (bytes_of a) }
+pub(crate) fn wide_fourteen(a: Lane<u8>) -> Lane<u8>
+    ensures { put_taps (samples_of a) 1 (fourteen_of result) ≡ wide_filter 4 (samples_of a) }
 {
     let r = wide_fourteen_unchecked(widened(a));
-    ByteLane {
+    Lane {
         p7: a.p7,
         p6: r.p6 as u8,
         p5: r.p5 as u8,

@@ -4,7 +4,7 @@ use lib.Dec.{leb}
 use Rattle.strength.specs.Strength.{strength_of}
 use Rattle.line.specs.Masks.{flat_mask, flat_mask2}
 use Rattle.byte_filters.specs.ByteArm.{arm_of}
-use Rattle.byte_filters.specs.ByteSamples.{bytes_of}
+use Rattle.lane_filters.specs.LaneSamples.{samples_of}
 use Rattle.byte_filters.proofs.lane_arm_unchecked.Goals as goal
 use Rattle.byte_filters.proofs.lane_arm_unchecked.Goals.{then-flat, else-flat, then-flat2, else-flat2}
 use Rattle.byte_filters.proofs.lane_arm_unchecked.Tie as tie
@@ -15,7 +15,7 @@ abbrev at-Joined2 : Type 0
 at-Joined2 = lts.Joined2 tie.the-claims reads.Pre reads.Post
 
 -- which filter, where one is on
-some_is : (c : at-Joined2) → let a = c.args in c.if-flat.some ≡ cond (leb 64 a.key && flat_mask 1 (bytes_of a.a)) (cond (leb 128 a.key && flat_mask2 1 (bytes_of a.a)) 3 2) 1
+some_is : (c : at-Joined2) → let a = c.args in c.if-flat.some ≡ cond (leb 64 a.key && flat_mask 1 (samples_of a.a)) (cond (leb 128 a.key && flat_mask2 1 (samples_of a.a)) 3 2) 1
 some_is c =
     rw (← c.flat_mask2.ensures, ← c.flat_mask.ensures)
     (elim c.if-flat.branch [
@@ -32,7 +32,7 @@ returns-then-on c =
     let mask = c in
     let blimit = mask in
     let limit = blimit in
-    let on = rw (mask.filter_mask.ensures, blimit.blimit_of.ensures.0, limit.limit_of-limit.ensures.0) at c.if-on.true in
+    let on = rw (mask.filter_mask_unchecked.ensures, blimit.blimit_of.ensures.0, limit.limit_of-limit.ensures.0) at c.if-on.true in
     rw on (some_is c.before)
 
 pub returns-else-on : goal.returns-else-on
@@ -41,5 +41,5 @@ returns-else-on c =
     let mask = c in
     let blimit = mask in
     let limit = blimit in
-    let on = rw (mask.filter_mask.ensures, blimit.blimit_of.ensures.0, limit.limit_of-limit.ensures.0) at c.if-on.false in
+    let on = rw (mask.filter_mask_unchecked.ensures, blimit.blimit_of.ensures.0, limit.limit_of-limit.ensures.0) at c.if-on.false in
     rw on

@@ -6,6 +6,5 @@ use Rattle.byte_filters.proofs.narrow.decreased.Goals as goal
 pub returns : goal.returns
 unfolding decreased
 returns c =
-    let m = c in
-    let a = m.args in
-    rw (c.less-3.ensures, c.less-2.ensures, m.more.ensures, m.less.ensures) (moved a.x a.k a.value (omega arith))
+    let a = c.args in
+    rw (c.saturating_sub-3.ensures, c.saturating_sub-2.ensures, c.saturating_add.ensures, c.saturating_sub.ensures) (moved a.x a.k a.value (omega arith))

@@ -4,4 +4,4 @@ use Rattle.byte_filters.proofs.narrow.eighth.Goals as goal
 
 pub returns : goal.returns
 unfolding raised_eighth
-returns c = (rw c.more.ensures, omega arith)
+returns c = (rw c.saturating_add.ensures, omega arith)

@@ -8,9 +8,8 @@ use Rattle.byte_filters.proofs.narrow.filter_base.Goals as goal
 pub returns-then-hev : goal.returns-then-hev
 unfolding raised_base
 returns-then-hev c =
-    let m = c in
-    let a = m.args in
-    rw (c.if-hev.true, c.less-base.ensures, c.less-2.ensures, m.more.ensures, m.less.ensures)
+    let a = c.args in
+    rw (c.if-hev.true, c.saturating_sub-base.ensures, c.saturating_sub-2.ensures, c.saturating_add.ensures, c.saturating_sub.ensures)
     (moved 128 a.p1 a.q1 (omega arith) ∙ ap (λ (n : ℕ). min (n - a.q1) 255) (omega arith))
 
 pub returns-else-hev : goal.returns-else-hev

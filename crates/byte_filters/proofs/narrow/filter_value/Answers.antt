@@ -6,17 +6,15 @@ use Rattle.byte_filters.proofs.narrow.filter_value.Goals as goal
 pub returns : goal.returns
 unfolding raised_filter
 returns c =
-    let m = c in
-    let l = m in
-    let a = l.args in
+    let a = c.args in
     rw (
-      c.less-3.ensures,
-      c.less-2.ensures,
-      c.less.ensures,
-      m.more-3.ensures,
-      m.more-2.ensures,
-      m.more.ensures,
-      l.less-down.ensures,
-      l.less-up.ensures,
+      c.saturating_sub-3.ensures,
+      c.saturating_sub-2.ensures,
+      c.saturating_sub.ensures,
+      c.saturating_add-raised.ensures,
+      c.saturating_add-2.ensures,
+      c.saturating_add.ensures,
+      c.saturating_sub-down.ensures,
+      c.saturating_sub-up.ensures,
     )
     (moved_thrice a.base a.q0 a.p0 (omega arith))

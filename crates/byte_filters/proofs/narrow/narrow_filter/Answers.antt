@@ -2,7 +2,7 @@ use borrow.Author.Rules.{rules}
 use mathlib.Core.Path.{refl}
 use Rattle.base.specs.Depth.{supported}
 use Rattle.lane_filters.specs.RaisedFilterLaws.{narrow_high, narrow_low}
-use Rattle.byte_filters.specs.ByteSamples.{bytes_of}
+use Rattle.lane_filters.specs.LaneSamples.{samples_of}
 use Rattle.byte_filters.proofs.narrow.narrow_filter.Goals as goal
 
 pub returns-then-hev : goal.returns-then-hev
@@ -15,7 +15,7 @@ returns-then-hev c =
     let f = f1 in
     let b = f in
     let a = b.args in
-    narrow_high 8 1 refl refl a.hev (bytes_of a.a) b.filter_base-base.result f.filter_value-filter.result f1.eighth-filter1.result f2.eighth-filter2.result p0.increased-p0.result q0.decreased-q0.result b.filter_base-base.ensures f.filter_value-filter.ensures f1.eighth-filter1.ensures.0 f2.eighth-filter2.ensures.0 p0.increased-p0.ensures q0.decreased-q0.ensures c.if-hev.true
+    narrow_high 8 1 refl refl a.hev (samples_of a.a) b.filter_base-base.result f.filter_value-filter.result f1.eighth-filter1.result f2.eighth-filter2.result p0.increased-p0.result q0.decreased-q0.result b.filter_base-base.ensures f.filter_value-filter.ensures f1.eighth-filter1.ensures.0 f2.eighth-filter2.ensures.0 p0.increased-p0.ensures q0.decreased-q0.ensures c.if-hev.true
 
 pub returns : goal.returns
 unfolding supported
@@ -29,8 +29,4 @@ returns c =
     let f = f1 in
     let b = f in
     let a = b.args in
-    narrow_low 8 1 refl refl a.hev (bytes_of a.a) b.filter_base-base.result f.filter_value-filter.result f1.eighth-filter1.result f2.eighth-filter2.result p0.increased-p0.result q0.decreased-q0.result b.filter_base-base.ensures f.filter_value-filter.ensures f1.eighth-filter1.ensures.0 f2.eighth-filter2.ensures.0 p0.increased-p0.ensures q0.decreased-q0.ensures g.if-hev.false g.rounded_half-rounded.result p1.increased-p1.result c.decreased-q1.result g.rounded_half-rounded.ensures p1.increased-p1.ensures c.decreased-q1.ensures
-
-pub rounded_half-rounded-requires : goal.rounded_half-rounded-requires
-rounded_half-rounded-requires c =
-    search rules
+    narrow_low 8 1 refl refl a.hev (samples_of a.a) b.filter_base-base.result f.filter_value-filter.result f1.eighth-filter1.result f2.eighth-filter2.result p0.increased-p0.result q0.decreased-q0.result b.filter_base-base.ensures f.filter_value-filter.ensures f1.eighth-filter1.ensures.0 f2.eighth-filter2.ensures.0 p0.increased-p0.ensures q0.decreased-q0.ensures g.if-hev.false g.rounded_half-rounded.result p1.increased-p1.result c.decreased-q1.result g.rounded_half-rounded.ensures p1.increased-p1.ensures c.decreased-q1.ensures

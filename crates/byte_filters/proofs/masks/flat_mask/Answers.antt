@@ -1,6 +1,0 @@
-use Rattle.line.specs.Masks.{flat_at, flat_mask}
-use Rattle.byte_filters.proofs.masks.flat_mask.Goals as goal
-
-pub returns : goal.returns
-unfolding flat_mask flat_at
-returns c = rw (c.flat_at-3.ensures, c.flat_at-2.ensures, c.flat_at.ensures)

@@ -1,6 +1,0 @@
-use Rattle.line.specs.Masks.{hev_mask}
-use Rattle.byte_filters.proofs.masks.hev_mask.Goals as goal
-
-pub returns : goal.returns
-unfolding hev_mask
-returns c = rw (c.abs_diff-2.ensures, c.abs_diff.ensures)
