@@ -1,5 +1,4 @@
 use mathlib.Core.Path.{◌≡◌}
-use Prim.Native.Nat.{◌-◌}
 use native.Mathlib.Omega.{arith}
 use lib.Dec.{eqb}
 use lib.ListN.{get_or}
@@ -7,13 +6,12 @@ use Rattle.base.specs.First.{found, found-start, found_more}
 use Rattle.byte_lanes.proofs.any_arm.Goals as goal
 
 pub loop-l-init : goal.loop-l-init
-loop-l-init c = (omega arith, found-start (λ k. eqb (get_or c.args.arms.now k 0) c.args.arm))
+loop-l-init c = found-start (λ k. eqb (get_or c.args.arms.now k 0) c.args.arm)
 
 pub loop-l-preserved : goal.loop-l-preserved
 loop-l-preserved c =
     let a = c.args in
-    let loop = c.loop-l in
-    (omega arith, rw loop.invariant.1 (found_more (λ k. eqb (get_or a.arms.now k 0) a.arm) loop.l))
+    rw c.loop-l.invariant (found_more (λ k. eqb (get_or a.arms.now k 0) a.arm) c.loop-l.l)
 
 pub returns : goal.returns
-returns c = let all : c.loop-l.l ≡ 16 = omega arith in rw all at c.loop-l.invariant.1
+returns c = let all : c.loop-l.l ≡ 16 = omega arith in rw all at c.loop-l.invariant

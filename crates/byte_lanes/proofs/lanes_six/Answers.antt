@@ -1,19 +1,17 @@
-use Prim.Native.Nat.{◌-◌}
 use native.Mathlib.Omega.{arith}
-use Rattle.byte_filters.specs.ByteSamples.{byte_six_of}
-use Rattle.lanes.specs.LanesLaws.{lanes_none, lanes_all, lane_more}
+use Rattle.lane_filters.specs.LaneSamples.{six_of}
+use Rattle.lanes.specs.LanesLaws.{lanes_none, lanes_all, lane_more, lane_found, lane_samples}
 use Rattle.byte_lanes.proofs.lanes_six.Goals as goal
 
 pub loop-l-init : goal.loop-l-init
-loop-l-init c = (omega arith, c.requires, lanes_none c.args.t.now)
+loop-l-init c = (c.requires, lanes_none c.args.t.now)
 
 pub loop-l-preserved : goal.loop-l-preserved
 loop-l-preserved c =
-    let r = c in
-    let lane = r in
-    let loop = lane.loop-l in
-    let more = lane_more 5 (byte_six_of r.byte_six-r.result) (omega (arith, lane.loop-l-test.true)) (omega arith) loop.invariant.1 loop.invariant.2 lane.lane_at.ensures r.byte_six-r.ensures c.put_six.ensures in
-    (omega (arith, lane.loop-l-test.true), more.0, more.1)
+    let (long, to) = c.loop-l.invariant in
+    let r = c.byte_six-r in
+    let is = lane_found c.loop-l.t c.loop-l.l long (omega arith) c.lane_at_unchecked.ensures in
+    lane_more 5 (six_of r.result) (omega arith) (omega arith) long to (lane_samples c.loop-l.t c.loop-l.l is) r.ensures c.put_six_unchecked.ensures
 
 pub returns : goal.returns
-returns c = (lanes_all c.loop-l-test.false c.loop-l.invariant.2, c.loop-l.invariant.1)
+returns c = (lanes_all c.loop-l-test.false c.loop-l.invariant.1, c.loop-l.invariant.0)

@@ -1,12 +1,8 @@
 use mathlib.Core.Path.{◌≡◌}
-use Prim.Native.Nat.{◌-◌, ◌≤◌}
 use lib.ListN.{length}
 use Rattle.lanes.specs.Lanes.{EachLaneTo}
 use Rattle.byte_lanes.specs.ByteLanes.{arm_lane, wide_lane}
 use Rattle.byte_lanes.proofs.lanes_six.Given as goal
 
 abbrev pub invariant-loop-l : goal.invariant-loop-l
-invariant-loop-l l = (l.l ≤ 16) × (length l.t ≡ 256) × EachLaneTo l.l (arm_lane 2 (wide_lane 3) l.arms) l.initial.t l.t
-
-abbrev pub decreases-loop-l : goal.decreases-loop-l
-decreases-loop-l l = 16 - l.l
+invariant-loop-l l = (length l.t ≡ 256) × EachLaneTo l.l (arm_lane 2 (wide_lane 3) l.arms) l.initial.t l.t
