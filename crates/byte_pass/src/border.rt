@@ -6,60 +6,48 @@ ghost use Rattle.window.specs.Stencil.{applied, in_turn};
 ghost use Rattle.window.specs.WindowLaws.{Lent};
 ghost use Rattle.byte_lanes.specs.ByteLanes.{Keys};
 
-use byte_border::filter_byte_position_unchecked;
-use geometry::Pass;
+use border_position::filter_position_unchecked;
 use strength::strength_by_unchecked;
-use tap_places::along::{along_x_unchecked, along_y_unchecked};
+use tap_places::position::Position;
+use tap_places::run_start::RunStart;
 use window::WindowShape;
 
 // Level 0 filters nothing.
 fn filter_keyed(
     samples: &mut [u8],
     g: WindowShape,
-    pass: Pass,
-    x: usize,
-    y: usize,
+    p: Position,
     sharpness: u8,
     limits: &[u8; 512],
     key: u8,
 )
-    requires { Lent g (length samples.old) × (x ≤ 131136) × (y ≤ 131136) × (sharpness ≤ 7) × Limits limits.now × (key < 192) }
-    ensures { samples.new ≡ applied (key_stencil g pass x y sharpness 8 key) samples.old }
+    requires { Lent g (length samples.old) × (sharpness ≤ 7) × Limits limits.now × (key < 192) }
+    ensures { samples.new ≡ applied (key_stencil g p.pass p.x p.y sharpness 8 key) samples.old }
 {
     let level = key % 64;
     if 0 < level {
         let strength = strength_by_unchecked(limits, level, sharpness);
-        filter_byte_position_unchecked(samples, g, pass, x, y, key / 64, strength);
+        filter_position_unchecked(samples, g, p, 8, key / 64, strength);
     }
 }
 
-// The positions of a chunk from a first one on; the chunk's own first has its q0 at (x, y).
+// The positions of a chunk from a first one on; the chunk's own first is where it starts.
 pub(crate) fn filter_border(
     samples: &mut [u8],
     g: WindowShape,
-    pass: Pass,
-    x: usize,
-    y: usize,
+    start: RunStart,
     sharpness: u8,
     limits: &[u8; 512],
     keys: &[u8; 16],
     first: usize,
     count: usize,
 )
-    requires { Lent g (length samples.old) × (x ≤ 131072) × (y ≤ 131072) × (sharpness ≤ 7) × Limits limits.now × Keys keys.now × (first + count ≤ 16) }
-    ensures { samples.new ≡ in_turn (λ k. keyed_run g pass x y sharpness 8 (λ j. get_or keys.now j 0) (first + k)) count samples.old }
+    requires { Lent g (length samples.old) × (sharpness ≤ 7) × Limits limits.now × Keys keys.now × (first + count ≤ 16) }
+    ensures { samples.new ≡ in_turn (λ k. keyed_run g start.pass start.x start.y sharpness 8 (λ j. get_or keys.now j 0) (first + k)) count samples.old }
 {
     for j in 0..count {
         let k = first + j;
-        filter_keyed(
-            samples,
-            g,
-            pass,
-            along_x_unchecked(pass, x, k),
-            along_y_unchecked(pass, y, k),
-            sharpness,
-            limits,
-            keys[k],
-        );
+        let p = start.position_unchecked(k);
+        filter_keyed(samples, g, p, sharpness, limits, keys[k]);
     }
 }

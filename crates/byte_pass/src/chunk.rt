@@ -13,67 +13,52 @@ ghost use Rattle.byte_lanes.specs.ByteLanes.{Keys};
 use crate::border::filter_border;
 use crate::chunk_keys::{chunk_filters, chunk_keys};
 use byte_chunks::filter_chunk_unchecked;
-use geometry::{Pass, Plane, Superblock};
+use geometry::{Pass, Superblock};
 use positions::{plane_x_unchecked, plane_y_unchecked};
-use tap_places::inside::{along_step, first_tap_unchecked, inside_count_unchecked, tap_step};
+use tap_places::run_start::RunStart;
 use window::WindowShape;
 
 // The first n positions of a chunk, whose taps are all in the window, in lanes.
 fn filter_inside(
     samples: &mut [u8],
     g: WindowShape,
-    pass: Pass,
-    x: usize,
-    y: usize,
+    start: RunStart,
     n: usize,
     sharpness: u8,
     keys: &[u8; 16],
 )
-    requires { Lent g (length samples.old) × (x ≤ 131072) × (y ≤ 131072) × (inside_run g pass x y n ≡ true) × (n ≤ 16) × (sharpness ≤ 7) × Keys keys.now }
-    ensures { samples.new ≡ in_turn (keyed_run g pass x y sharpness 8 (λ j. get_or keys.now j 0)) n samples.old }
+    requires { Lent g (length samples.old) × (inside_run g start.pass start.x start.y n ≡ true) × (n ≤ 16) × (sharpness ≤ 7) × Keys keys.now }
+    ensures { samples.new ≡ in_turn (keyed_run g start.pass start.x start.y sharpness 8 (λ j. get_or keys.now j 0)) n samples.old }
 {
-    let at = first_tap_unchecked(g, pass, x, y);
+    let at = start.first_tap_unchecked(g);
     filter_chunk_unchecked(
         samples,
         at,
-        tap_step(g, pass),
-        along_step(g, pass),
+        start.tap_step(g),
+        start.along_step(g),
         n,
         keys,
         sharpness,
     );
 }
 
-// The positions of a chunk whose first has its q0 at (x, y): from the first on those inside the window in lanes, the others one by one.
+// The positions of a chunk: from the first on those inside the window in lanes, the others one by one.
 fn filter_at(
     samples: &mut [u8],
     g: WindowShape,
-    pass: Pass,
-    x: Plane,
-    y: Plane,
+    start: RunStart,
     sharpness: u8,
     limits: &[u8; 512],
     keys: &[u8; 16],
 )
-    requires { Lent g (length samples.old) × (x.0 ≤ 131072) × (y.0 ≤ 131072) × (sharpness ≤ 7) × Limits limits.now × Keys keys.now }
-    ensures { samples.new ≡ in_turn (keyed_run g pass x.0 y.0 sharpness 8 (λ j. get_or keys.now j 0)) 16 samples.old }
+    requires { Lent g (length samples.old) × (sharpness ≤ 7) × Limits limits.now × Keys keys.now }
+    ensures { samples.new ≡ in_turn (keyed_run g start.pass start.x start.y sharpness 8 (λ j. get_or keys.now j 0)) 16 samples.old }
 {
-    let n = inside_count_unchecked(g, pass, x.0, y.0);
+    let n = start.inside_count_unchecked(g);
     if 0 < n {
-        filter_inside(samples, g, pass, x.0, y.0, n, sharpness, keys);
+        filter_inside(samples, g, start, n, sharpness, keys);
     }
-    filter_border(
-        samples,
-        g,
-        pass,
-        x.0,
-        y.0,
-        sharpness,
-        limits,
-        keys,
-        n,
-        16 - n,
-    );
+    filter_border(samples, g, start, sharpness, limits, keys, n, 16 - n);
 }
 
 // Chunk m of an edge.
@@ -96,6 +81,11 @@ pub(crate) fn filter_chunk(
         let keys = chunk_keys(outer, inner, s, pass, edge, m);
         let x = plane_x_unchecked(s, pass, edge, 16 * m);
         let y = plane_y_unchecked(s, pass, edge, 16 * m);
-        filter_at(samples, g, pass, x, y, sharpness, limits, &keys);
+        let start = RunStart {
+            pass,
+            x: x.0,
+            y: y.0,
+        };
+        filter_at(samples, g, start, sharpness, limits, &keys);
     }
 }

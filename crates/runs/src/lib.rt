@@ -15,7 +15,7 @@ use border::filter_border;
 use geometry::{Pass, Plane};
 use lane_runs::filter_lane_run_unchecked;
 use strength::FilterStrength;
-use tap_places::inside::{along_step, first_tap_unchecked, is_inside_unchecked, tap_step};
+use tap_places::run_start::RunStart;
 use window::WindowShape;
 
 // n positions along an edge by one filter size and strength, the first with q0 at (x, y). Inside the window they are filtered in
@@ -34,19 +34,24 @@ pub fn filter_run_unchecked(
     requires { Lent g (length samples.old) × (x.0 ≤ 131072) × (y.0 ≤ 131072) × (n ≤ 16) × (supported depth ≡ true) × (size ≤ 2) × InRange g 4096 samples.old }
     ensures { samples.new ≡ in_turn (run_of g pass x.0 y.0 (sample_filtering depth size strength.limit strength.blimit strength.thresh)) n samples.old }
 {
-    if is_inside_unchecked(g, pass, x.0, y.0, n) {
-        let at = first_tap_unchecked(g, pass, x.0, y.0);
+    let start = RunStart {
+        pass,
+        x: x.0,
+        y: y.0,
+    };
+    if start.is_inside_unchecked(g, n) {
+        let at = start.first_tap_unchecked(g);
         filter_lane_run_unchecked(
             samples,
             at,
-            tap_step(g, pass),
-            along_step(g, pass),
+            start.tap_step(g),
+            start.along_step(g),
             n,
             depth,
             size,
             strength,
         );
     } else {
-        filter_border(samples, g, pass, x.0, y.0, n, depth, size, strength);
+        filter_border(samples, g, start, n, depth, size, strength);
     }
 }

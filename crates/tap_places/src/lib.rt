@@ -2,7 +2,6 @@
 // how wide a sample is.
 #![tactic(auto)]
 
-pub mod along;
-pub mod inside;
 mod place;
-pub mod taps;
+pub mod position;
+pub mod run_start;

@@ -1,7 +1,4 @@
-use mathlib.Core.Path.{◌≡◌}
-use mathlib.Core.List.{List}
-use Prim.Native.Nat.{ℕ, ◌+◌, ◌-◌, ◌≤◌}
-use lib.ListN.{length, get_or}
+use Rattle.std.proofs.Common.{◌≡◌, List, ℕ, ◌+◌, get_or}
 use Rattle.geometry.specs.declared.Pass.{Pass}
 use Rattle.pass.specs.Chunks.{keyed_run}
 use Rattle.window.specs.Stencil.{Stencil, in_turn}
@@ -13,8 +10,4 @@ abbrev pub family : WindowShape → Pass → (x y sharpness : ℕ) (keys : List 
 family g pass x y sharpness keys first k = keyed_run g pass x y sharpness 8 (λ j. get_or keys j 0) (first + k)
 
 abbrev pub invariant-loop-j : goal.invariant-loop-j
-invariant-loop-j l =
-    (l.j ≤ l.count) × (length l.samples ≡ length l.initial.samples) × (l.samples ≡ in_turn (family l.g l.pass l.x l.y l.sharpness l.keys l.first) l.j l.initial.samples)
-
-abbrev pub decreases-loop-j : goal.decreases-loop-j
-decreases-loop-j l = l.count - l.j
+invariant-loop-j l = l.samples ≡ in_turn (family l.g l.start.pass l.start.x l.start.y l.sharpness l.keys l.first) l.j l.initial.samples

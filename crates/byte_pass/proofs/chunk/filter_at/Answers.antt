@@ -19,13 +19,7 @@ at-Joined1 = lts.Joined1 tie.the-claims reads.Pre reads.Post
 
 -- the positions of the chunk
 abbrev family : at-Start → (k : ℕ) → Stencil
-family c = let a = c.args in keyed_run a.g a.pass a.x.0 a.y.0 a.sharpness 8 (λ j. get_or a.keys.now j 0)
-
-pub filter_inside-requires : goal.filter_inside-requires
-filter_inside-requires c =
-    let count = c in
-    let p = count.requires in
-    (p.0, p.1, p.2, count.inside_count_unchecked-n.ensures.1 c.if-n-gt0.true, count.inside_count_unchecked-n.ensures.0, p.3, p.5)
+family c = let a = c.args in keyed_run a.g a.start.pass a.start.x a.start.y a.sharpness 8 (λ j. get_or a.keys.now j 0)
 
 -- those inside the window are done first
 inside : (c : at-Joined1) → let start = c in c.if-n-gt0.samples ≡ in_turn (family start.before.before.before) c.inside_count_unchecked-n.result start.args.samples.now
@@ -37,14 +31,6 @@ inside c =
           w.samples-is ∙ in_turn_none _ _ ∙ ap (λ (n : ℕ). in_turn (family c.before.before.before) n c.args.samples.now) (sym none)
     ]
 
-pub filter_border-requires : goal.filter_border-requires
-filter_border-requires c =
-    let count = c in
-    let start = count in
-    let p = start.requires in
-    let long = ap length (inside c.before) ∙ in_turn-length (family start.before.before.before.before) _ _ in
-    (rw long p.0, p.1, p.2, p.3, p.4, p.5, omega (arith, count.inside_count_unchecked-n.ensures.0))
-
 pub returns : goal.returns
 returns c =
     let joined = c in
@@ -55,10 +41,3 @@ returns c =
     ∙ ap (in_turn (λ k. family start.before.before.before.before.before.before.before.before (n + k)) (16 - n)) (inside joined.before.before.before.before.before)
     ∙ sym (in_turn_split (family start.before.before.before.before.before.before.before.before) n (16 - n) start.args.samples.now)
     ∙ ap (λ (m : ℕ). in_turn (family start.before.before.before.before.before.before.before.before) m start.args.samples.now) all
-
-pub shape_of-samples : goal.shape_of-samples
-shape_of-samples c = ap length (returns c) ∙ in_turn-length (family c.before.before.before.before.before.before.before.before) 16 _
-
-pub overflow_sub-n : goal.overflow_sub-n
-overflow_sub-n c =
-    c.inside_count_unchecked-n.ensures.0

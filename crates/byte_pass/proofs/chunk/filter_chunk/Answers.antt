@@ -18,13 +18,6 @@ grid : (c : at-Start) → Placed c.args.s × (c.args.edge < 16) × (16 * c.args.
 grid c =
     (c.requires.0.placed, omega (arith, c.requires.2, edge_count_small c.args.s c.args.pass), omega (arith, c.requires.3, edge_len_small c.args.s c.args.pass))
 
-pub filter_at-requires : goal.filter_at-requires
-filter_at-requires c =
-    let at_y = c in
-    let made = at_y in
-    let p = made.requires in
-    (p.0.window, omega (arith, at_y.plane_x_unchecked-x.ensures.1), omega (arith, at_y.plane_y_unchecked-y.ensures.1), p.0.sharp, p.4, made.chunk_keys-keys.ensures.small)
-
 pub returns-then-chunk_filters : goal.returns-then-chunk_filters
 returns-then-chunk_filters c =
     let at_y = c in

@@ -1,35 +1,22 @@
-use mathlib.Core.Path.{◌≡◌, refl, ◌∙◌}
-use Prim.Native.Nat.{◌-◌}
-use native.Mathlib.Omega.{arith}
+use Rattle.std.proofs.Common.{◌≡◌, arith}
+use Rattle.std.proofs.lemmas.List.{map-id}
 use Rattle.line.specs.SampleFiltering.{sample_filtering}
+use Rattle.tap_places.specs.TurnLaws.{in_turn_next}
 use Rattle.window.specs.StencilLaws.{in_turn_none}
 use Rattle.window.specs.Window.{run_of}
-use Rattle.tap_places.specs.TurnLaws.{in_turn_next}
 use Rattle.runs.proofs.border.filter_border.Goals as goal
 
 pub loop-k-init : goal.loop-k-init
-loop-k-init c = (omega arith, refl, in_turn_none _ _)
-
-pub filter_position-requires : goal.filter_position-requires
-filter_position-requires c =
-    let at-loop = c in
-    let s = at-loop in
-    (rw at-loop.loop-k.invariant.1 s.requires.0, c.along_x_unchecked.ensures.1, c.along_y_unchecked.ensures.1, s.requires.4)
+loop-k-init c = in_turn_none _ _
 
 pub loop-k-preserved : goal.loop-k-preserved
 loop-k-preserved c =
-    let call = c.filter_position in
-    let at_y = c in
-    let at-loop = at_y in
-    let a = at-loop.args in
-    let l = at-loop.loop-k in (
-      omega arith,
-      call.auto.samples ∙ l.invariant.1,
-      in_turn_next (run_of a.g a.pass a.x a.y (sample_filtering a.depth a.size a.strength.limit a.strength.blimit a.strength.thresh)) l.k a.samples.now _ _
-          (rw (at_y.along_y_unchecked.ensures.0, at_y.along_x_unchecked.ensures.0) at call.ensures) l.invariant.2,
-    )
+    let a = c.args in
+    let p = c.position_unchecked-p.ensures in
+    in_turn_next (run_of a.g a.start.pass a.start.x a.start.y (sample_filtering a.depth a.size a.strength.limit a.strength.blimit a.strength.thresh)) c.loop-k.k _ _ _
+    (rw (p.0, p.1, p.2) at simp map-id at c.filter_position_unchecked.ensures) c.loop-k.invariant
 
 pub returns : goal.returns
 returns c =
     let all : c.loop-k.k ≡ c.args.n = omega arith in
-    rw all at c.loop-k.invariant.2
+    rw all at c.loop-k.invariant

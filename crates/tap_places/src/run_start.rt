@@ -1,0 +1,116 @@
+// Where a run starts: its positions, how many of them have all their taps in the window, the place of the first tap, and the
+// steps from tap to tap and from position to position.
+ghost use Rattle.std.specs.Prelude.{true, ◌≡◌, ◌+◌, ◌≤◌, ◌<◌};
+ghost use Rattle.window.specs.InsideRun.{inside_run, first_tap, tap_step, along_step};
+ghost use Rattle.window.specs.Window.{along_x, along_y};
+ghost use Rattle.tap_places.specs.Near.{Near};
+
+use crate::place::place_of;
+use crate::position::Position;
+use geometry::Pass;
+use window::WindowShape;
+
+// The start of a run of positions along an edge: the first has its q0 at (x, y).
+#[derive(Clone, Copy)]
+pub struct RunStart {
+    pub pass: Pass,
+    pub x: usize,
+    pub y: usize,
+    pub ghost near_x: { x ≤ 131072 },
+    pub ghost near_y: { y ≤ 131072 },
+}
+
+// How many numbers from a first one on are below an end, up to 16.
+fn count_to(first: usize, end: usize) -> usize
+    ensures { (result ≤ 16) × (0 < result → first + result ≤ end) }
+{
+    end.saturating_sub(first).min(16)
+}
+
+impl RunStart {
+    pub fn position_unchecked(self, k: usize) -> Position
+        requires { k ≤ 64 }
+        ensures { (result.pass ≡ self.pass) × (result.x ≡ along_x self.pass self.x k) × (result.y ≡ along_y self.pass self.y k) }
+    {
+        match self.pass {
+            Pass::Vertical => Position {
+                pass: self.pass,
+                x: self.x,
+                y: self.y + k,
+            },
+            Pass::Horizontal => Position {
+                pass: self.pass,
+                x: self.x + k,
+                y: self.y,
+            },
+        }
+    }
+
+    // Whether all taps of n positions are in the window.
+    pub fn is_inside_unchecked(self, g: WindowShape, n: usize) -> bool
+        requires { (n ≤ 64) × (g.top + g.height ≤ 65536) }
+        ensures { result ≡ inside_run g self.pass self.x self.y n }
+    {
+        match self.pass {
+            Pass::Vertical => (8 <= self.x)
+                & (self.x + 8 <= g.width)
+                & (g.top <= self.y)
+                & (self.y + n <= g.top + g.height),
+            Pass::Horizontal => (self.x + n <= g.width)
+                & (g.top + 8 <= self.y)
+                & (self.y + 8 <= g.top + g.height),
+        }
+    }
+
+    // How many positions from the first on have all their taps in the window, up to 16.
+    pub fn inside_count_unchecked(self, g: WindowShape) -> usize
+        requires { g.top + g.height ≤ 65536 }
+        ensures { (result ≤ 16) × (0 < result → inside_run g self.pass self.x self.y result ≡ true) }
+    {
+        match self.pass {
+            Pass::Vertical => {
+                if (8 <= self.x) & (self.x + 8 <= g.width) & (g.top <= self.y) {
+                    return count_to(self.y, g.top + g.height);
+                }
+                0
+            }
+            Pass::Horizontal => {
+                if (g.top + 8 <= self.y) & (self.y + 8 <= g.top + g.height) {
+                    return count_to(self.x, g.width);
+                }
+                0
+            }
+        }
+    }
+
+    // The place of the first position's p7.
+    pub fn first_tap_unchecked(self, g: WindowShape) -> usize
+        requires { Near g self.pass self.x self.y × (g.stride ≤ 131072) }
+        ensures { result ≡ first_tap g self.pass self.x self.y }
+    {
+        match self.pass {
+            Pass::Vertical => place_of(g, self.x - 8, self.y),
+            Pass::Horizontal => place_of(g, self.x, self.y - 8),
+        }
+    }
+
+    // How far the taps of a position are apart.
+    pub fn tap_step(self, g: WindowShape) -> usize
+        ensures { result ≡ tap_step g self.pass }
+    {
+        match self.pass {
+            Pass::Vertical => 1,
+            Pass::Horizontal => g.stride,
+        }
+    }
+
+    // How far the positions of a run are apart.
+    pub fn along_step(self, g: WindowShape) -> usize
+        ensures { result ≡ along_step g self.pass }
+    {
+        match self.pass {
+            Pass::Vertical => g.stride,
+            Pass::Horizontal => 1,
+        }
+    }
+}
