@@ -1,8 +1,8 @@
--- Document 01's refusals of a pass, in the order of their numbers, and the answers that name them.
+-- Document 01's refusals of a pass, in the order of their numbers.
 -- Assumes nothing.
 use Rattle.std.specs.Prelude.{Bool, not, ◌||◌, List, ℕ, ◌*◌, ◌^◌, ltb, length}
 use Rattle.base.specs.First.{refuse_first}
-use Rattle.base.specs.Outcome.{Outcome, refuse, Returned}
+use Rattle.base.specs.Outcome.{Outcome, refuse}
 use Rattle.bad_words.specs.BadWord.{bad_cell}
 use Rattle.decided.specs.Decided.{Setting}
 use Rattle.decisions.specs.Decision.{levelless}
@@ -11,8 +11,6 @@ use Rattle.geometry.specs.declared.Pass.{Pass}
 use Rattle.pass_edges.specs.PassEdges.{edge_count}
 use Rattle.window.specs.Window.{bad_window, bad_sample}
 use Rattle.window.specs.declared.WindowShape.{WindowShape}
-use Rattle.faults.specs.declared.PassAnswer.{PassAnswer}
-use Rattle.faults.specs.declared.PassAnswer.TheVariants.{Done, Sharpness, Depth, Subsampling, FrameSize, Row, Short, Plane, Column, Cell, Window, Sample, Level}
 
 -- refusals 1 to 10, which numbers decide, and what follows them; known: whether the samples' width admits the depth
 abbrev pub numbers_refused : {A : Type 0} → (sharpness : ℕ) (known : Bool) (sub_x sub_y mi_cols mi_rows row col plane pass cells_lent : ℕ) → Outcome A → Outcome A
@@ -36,19 +34,3 @@ lists_refused g t pass samples after =
     (refuse_first (bad_sample g (2 ^ t.depth) samples) (g.height * g.width) 13
     (refuse_first (levelless s pass t.chroma t.cells) (64 * edge_count s pass) 14
     after)))
-
--- document 01's number and place for each answer
-abbrev pub returned_of : PassAnswer → Returned
-returned_of Done = record { number = 0; place = 0 }
-returned_of Sharpness = record { number = 1; place = 0 }
-returned_of Depth = record { number = 2; place = 0 }
-returned_of Subsampling = record { number = 3; place = 0 }
-returned_of FrameSize = record { number = 4; place = 0 }
-returned_of Row = record { number = 5; place = 0 }
-returned_of Short = record { number = 7; place = 0 }
-returned_of Plane = record { number = 9; place = 0 }
-returned_of Column = record { number = 10; place = 0 }
-returned_of (Cell k) = record { number = 11; place = k }
-returned_of Window = record { number = 12; place = 0 }
-returned_of (Sample k) = record { number = 13; place = k }
-returned_of (Level k) = record { number = 14; place = k }

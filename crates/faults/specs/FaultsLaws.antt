@@ -1,12 +1,14 @@
 -- Laws of a pass's refusals: what its tests leave, and the answers that the code gives.
 -- Assumes nothing.
-use Rattle.std.specs.Prelude.{◌≡◌, refl, ◌⊎◌, Bool, true, false, not, ◌||◌, List, [], ℕ, ◌*◌, ◌^◌, ◌≤◌, ltb, length}
-use Rattle.std.proofs.Common.{sym, ap, ◌∙◌, inl, inr, ltb-false}
+use Rattle.std.specs.Prelude.{◌≡◌, refl, Bool, true, false, not, ◌||◌, List, [], ℕ, ◌*◌, ◌^◌, ◌≤◌, ltb, length, Result, Ok, Err}
+use Rattle.std.proofs.Common.{sym, ap, ◌∙◌, ltb-false}
 use Rattle.std.proofs.lemmas.Bool.{not-false}
+use Rattle.base.specs.Fault.{afterwards}
 use Rattle.base.specs.First.{found, refuse_first}
 use Rattle.base.specs.Outcome.{Outcome, accepted, refused, refuse}
 use Rattle.base.specs.OutcomeLaws.{passed}
 use Rattle.base.specs.Tests.{neither}
+use Rattle.base.specs.declared.fault.Fault.{Fault}
 use Rattle.bad_words.specs.BadWord.{bad_cell}
 use Rattle.decided.specs.Decided.{Setting}
 use Rattle.decisions.specs.Decision.{levelless}
@@ -20,9 +22,7 @@ use Rattle.positions.specs.PositionsLaws.{placed}
 use Rattle.window.specs.Window.{bad_window, bad_sample}
 use Rattle.window.specs.WindowLaws.{Lent, lent}
 use Rattle.window.specs.declared.WindowShape.{WindowShape}
-use Rattle.faults.specs.Faults.{numbers_refused, lists_refused, returned_of}
-use Rattle.faults.specs.declared.PassAnswer.{PassAnswer}
-use Rattle.faults.specs.declared.PassAnswer.TheVariants.{Done, Sharpness, Depth, Subsampling, FrameSize, Row, Short, Plane, Column, Cell, Window, Sample, Level}
+use Rattle.faults.specs.Faults.{numbers_refused, lists_refused}
 
 -- ---- what the tests of the numbers leave
 
@@ -93,38 +93,6 @@ lists-passed g t pass samples after e =
 
 -- ---- the tests as the code makes them
 
--- what follows an answer: nothing after a refusal
-abbrev pub afterwards : {A : Type 0} → PassAnswer → Outcome A → Outcome A
-afterwards Done after = after
-afterwards Sharpness after = refused 1 0
-afterwards Depth after = refused 2 0
-afterwards Subsampling after = refused 3 0
-afterwards FrameSize after = refused 4 0
-afterwards Row after = refused 5 0
-afterwards Short after = refused 7 0
-afterwards Plane after = refused 9 0
-afterwards Column after = refused 10 0
-afterwards (Cell k) after = refused 11 k
-afterwards Window after = refused 12 0
-afterwards (Sample k) after = refused 13 k
-afterwards (Level k) after = refused 14 k
-
--- an answer that is not Done is a refusal, with its number and place
-pub done_or_refused : {A : Type 0} (answer : PassAnswer) (after : Outcome A) → (answer ≡ Done) ⊎ (afterwards answer after ≡ refused (returned_of answer).number (returned_of answer).place)
-done_or_refused Done after = inl refl
-done_or_refused Sharpness after = inr refl
-done_or_refused Depth after = inr refl
-done_or_refused Subsampling after = inr refl
-done_or_refused FrameSize after = inr refl
-done_or_refused Row after = inr refl
-done_or_refused Short after = inr refl
-done_or_refused Plane after = inr refl
-done_or_refused Column after = inr refl
-done_or_refused (Cell k) after = inr refl
-done_or_refused Window after = inr refl
-done_or_refused (Sample k) after = inr refl
-done_or_refused (Level k) after = inr refl
-
 -- the tests of the numbers come to the same whatever follows them
 abbrev and_then : {A B : Type 0} → Outcome A → Outcome B → Outcome B
 and_then (accepted a) after = after
@@ -134,22 +102,11 @@ refuse_then : {A B : Type 0} (test : Bool) (number place : ℕ) (o : Outcome A) 
 refuse_then true number place o after = refl
 refuse_then false number place o after = refl
 
-afterwards_then : {A B : Type 0} (answer : PassAnswer) (a : A) (after : Outcome B) → and_then (afterwards answer (accepted a)) after ≡ afterwards answer after
-afterwards_then Done a after = refl
-afterwards_then Sharpness a after = refl
-afterwards_then Depth a after = refl
-afterwards_then Subsampling a after = refl
-afterwards_then FrameSize a after = refl
-afterwards_then Row a after = refl
-afterwards_then Short a after = refl
-afterwards_then Plane a after = refl
-afterwards_then Column a after = refl
-afterwards_then (Cell k) a after = refl
-afterwards_then Window a after = refl
-afterwards_then (Sample k) a after = refl
-afterwards_then (Level k) a after = refl
+afterwards_then : {A B C : Type 0} (answer : Result C Fault) (a : A) (after : Outcome B) → and_then (afterwards answer (accepted a)) after ≡ afterwards answer after
+afterwards_then (Ok c) a after = refl
+afterwards_then (Err e) a after = refl
 
-pub numbers_any : {B : Type 0} (sharpness : ℕ) (known : Bool) (sub_x sub_y mi_cols mi_rows row col plane pass cells_lent : ℕ) (answer : PassAnswer)
+pub numbers_any : {B C : Type 0} (sharpness : ℕ) (known : Bool) (sub_x sub_y mi_cols mi_rows row col plane pass cells_lent : ℕ) (answer : Result C Fault)
     → ((after : Outcome (List ℕ)) → numbers_refused sharpness known sub_x sub_y mi_cols mi_rows row col plane pass cells_lent after ≡ afterwards answer after)
     → (after : Outcome B) → numbers_refused sharpness known sub_x sub_y mi_cols mi_rows row col plane pass cells_lent after ≡ afterwards answer after
 numbers_any sharpness known sub_x sub_y mi_cols mi_rows row col plane pass cells_lent answer h after =

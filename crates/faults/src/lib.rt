@@ -1,77 +1,19 @@
-// The tests of a pass, in the order of their numbers. Lists are tested for whether something offends, and only after a hit where.
+// The tests of a pass, in the order of their numbers.
 #![tactic(auto)]
 
 ghost use Rattle.std.specs.Prelude.{◌≡◌, true, List, ℕ, ◌^◌, ◌≤◌, length};
 ghost use Rattle.base.specs.Depth.{supported};
+ghost use Rattle.base.specs.Fault.{afterwards};
 ghost use Rattle.base.specs.Outcome.{Outcome};
 ghost use Rattle.positions.specs.Positions.{Placed};
 ghost use Rattle.geometry.specs.Frame.{cells_from};
-ghost use Rattle.faults.specs.Faults.{numbers_refused, returned_of};
-ghost use Rattle.faults.specs.FaultsLaws.{lent_refused, afterwards};
+ghost use Rattle.faults.specs.Faults.{numbers_refused};
+ghost use Rattle.faults.specs.FaultsLaws.{lent_refused};
 
-use bad_words::{any_bad_word_unchecked, first_bad_word_unchecked};
+use bad_words::first_bad_word_unchecked;
+use base::fault::Fault;
 use geometry::{Superblock, bad_frame_size, bad_start, bad_subsampling, cell_count_unchecked};
-use window::{WindowShape, any_bad_sample_unchecked, bad_window, first_bad_sample_unchecked};
-
-// What became of a pass: it was run, or refused.
-#[derive(Clone, Copy)]
-pub enum PassAnswer {
-    Done,
-    Sharpness,
-    Depth,
-    Subsampling,
-    FrameSize,
-    Row,
-    Short,
-    Plane,
-    Column,
-    Cell(usize),
-    Window,
-    Sample(usize),
-    Level(usize),
-}
-
-// Document 01's number and place of an answer, 0 and 0 where the pass was run.
-
-pub fn number_of(answer: PassAnswer) -> u32
-    ensures { result ≡ (returned_of answer).number }
-{
-    match answer {
-        PassAnswer::Done => 0,
-        PassAnswer::Sharpness => 1,
-        PassAnswer::Depth => 2,
-        PassAnswer::Subsampling => 3,
-        PassAnswer::FrameSize => 4,
-        PassAnswer::Row => 5,
-        PassAnswer::Short => 7,
-        PassAnswer::Plane => 9,
-        PassAnswer::Column => 10,
-        PassAnswer::Cell(_) => 11,
-        PassAnswer::Window => 12,
-        PassAnswer::Sample(_) => 13,
-        PassAnswer::Level(_) => 14,
-    }
-}
-
-pub fn place_of(answer: PassAnswer) -> usize
-    ensures { result ≡ (returned_of answer).place }
-{
-    match answer {
-        PassAnswer::Done => 0,
-        PassAnswer::Sharpness => 0,
-        PassAnswer::Depth => 0,
-        PassAnswer::Subsampling => 0,
-        PassAnswer::FrameSize => 0,
-        PassAnswer::Row => 0,
-        PassAnswer::Short => 0,
-        PassAnswer::Plane => 0,
-        PassAnswer::Column => 0,
-        PassAnswer::Cell(k) => k,
-        PassAnswer::Window => 0,
-        PassAnswer::Sample(k) => k,
-        PassAnswer::Level(k) => k,
-    }
-}
+use window::{WindowShape, bad_window, first_bad_sample_unchecked};
 
 // 2 to the depth.
 fn sample_bound(depth: u8) -> u16
@@ -94,34 +36,34 @@ pub fn number_faults(
     plane: u8,
     pass: u8,
     lent: usize,
-) -> PassAnswer
+) -> Result<(), Fault>
     ensures { (after : Outcome (List ℕ)) → numbers_refused sharpness known sub_x sub_y mi_cols mi_rows row col plane pass lent after ≡ afterwards result after }
 {
     if 7 < sharpness {
-        return PassAnswer::Sharpness;
+        return Err(Fault::Sharpness);
     }
     if !known {
-        return PassAnswer::Depth;
+        return Err(Fault::Depth);
     }
     if bad_subsampling(sub_x, sub_y) {
-        return PassAnswer::Subsampling;
+        return Err(Fault::Subsampling);
     }
     if bad_frame_size(mi_cols, mi_rows) {
-        return PassAnswer::FrameSize;
+        return Err(Fault::FrameSize);
     }
     if bad_start(row, mi_rows) {
-        return PassAnswer::Row;
+        return Err(Fault::Row);
     }
     if lent < cell_count_unchecked(row, mi_cols, mi_rows) {
-        return PassAnswer::Short;
+        return Err(Fault::Short);
     }
     if (2 < plane) | (1 < pass) {
-        return PassAnswer::Plane;
+        return Err(Fault::PlaneOrPass);
     }
     if bad_start(col, mi_cols) {
-        return PassAnswer::Column;
+        return Err(Fault::Column);
     }
-    PassAnswer::Done
+    Ok(())
 }
 
 // Refusals 11 to 13, once the numbers are tested. Refusal 14 is left to those who decide.
@@ -131,20 +73,19 @@ pub fn list_faults_unchecked(
     cells: &[u32],
     s: Superblock,
     depth: u8,
-) -> PassAnswer
+) -> Result<(), Fault>
     requires { Placed s × (cells_from s.row s.cols s.rows ≤ length cells.now) × (supported depth ≡ true) }
     ensures { (after : Outcome (List ℕ)) → lent_refused g s depth cells.now samples.now after ≡ afterwards result after }
 {
     let count = cell_count_unchecked(s.row, s.cols, s.rows);
-    if any_bad_word_unchecked(cells, count) {
-        return PassAnswer::Cell(first_bad_word_unchecked(cells, count));
+    if let Some(k) = first_bad_word_unchecked(cells, count) {
+        return Err(Fault::Cell(k));
     }
     if bad_window(g, samples.len()) {
-        return PassAnswer::Window;
+        return Err(Fault::Window);
     }
-    let bound = sample_bound(depth);
-    if any_bad_sample_unchecked(samples, g, bound) {
-        return PassAnswer::Sample(first_bad_sample_unchecked(samples, g, bound));
+    if let Some(k) = first_bad_sample_unchecked(samples, g, sample_bound(depth)) {
+        return Err(Fault::Sample(k));
     }
-    PassAnswer::Done
+    Ok(())
 }

@@ -1,17 +1,16 @@
 // The edges of a pass, cell by cell: adjacent cells that filter alike are joined, and each run is filtered once it cannot grow.
 ghost use Rattle.std.specs.Prelude.{◌≡◌, ◌<◌};
 ghost use Rattle.decided.specs.CellWalk.{key_kept, edge_cells};
-ghost use Rattle.decided.specs.KeyRuns.{key_runs, Keyed};
+ghost use Rattle.decided.specs.KeyRuns.{key_runs};
 ghost use Rattle.decided.specs.RunsLaws.{Small};
 ghost use Rattle.pass_edges.specs.PassEdges.{edge_count};
 ghost use Rattle.strength.specs.StrengthLaws.{Limits};
 ghost use Rattle.pass.specs.WorkLaws.{Able, run_filtered, runs_filtered};
 ghost use Rattle.pass.specs.WalkLaws.{Walk};
 
-use decided::{
-    EdgeRun, joins_unchecked, key_at_unchecked, key_run_unchecked, longer_unchecked, no_run,
-};
+use decided::{EdgeRun, joins_unchecked, key_run_unchecked, longer_unchecked, no_run};
 use geometry::{Pass, Superblock};
+use keys::Keys;
 use pass_edges::edge_count;
 use positions::{plane_x_unchecked, plane_y_unchecked};
 use runs::filter_run_unchecked;
@@ -85,17 +84,16 @@ fn filter_edge(
     sharpness: u8,
     depth: u8,
     limits: &[u8; 512],
-    outer: &[u8; 64],
-    inner: &[u8; 64],
+    keys: &Keys,
     edge: usize,
     start: EdgeRun,
 ) -> EdgeRun
-    requires { Able g s sharpness depth samples.old × Keyed outer.now inner.now × (edge < edge_count s pass) × Small start × Limits limits.now }
-    ensures { Walk g s pass sharpness depth (edge_cells s pass outer.now inner.now edge 8) start samples.old samples.new result }
+    requires { Able g s sharpness depth samples.old × (edge < edge_count s pass) × Small start × Limits limits.now }
+    ensures { Walk g s pass sharpness depth (edge_cells s pass keys.now.outer keys.now.inner edge 8) start samples.old samples.new result }
 {
     let mut pending = start;
     for c in 0..8 {
-        let key = key_at_unchecked(outer, inner, edge, c);
+        let key = keys.key_at_unchecked(edge, c);
         pending = filter_cell(
             samples, g, s, pass, sharpness, depth, limits, key, edge, c, pending,
         );
@@ -111,18 +109,17 @@ pub(crate) fn filter_keys(
     pass: Pass,
     sharpness: u8,
     depth: u8,
-    outer: &[u8; 64],
-    inner: &[u8; 64],
+    keys: &Keys,
 )
-    requires { Able g s sharpness depth samples.old × Keyed outer.now inner.now }
-    ensures { samples.new ≡ runs_filtered g s pass sharpness depth (key_runs s pass outer.now inner.now) samples.old }
+    requires { Able g s sharpness depth samples.old }
+    ensures { samples.new ≡ runs_filtered g s pass sharpness depth (key_runs s pass keys.now.outer keys.now.inner) samples.old }
 {
     let count = edge_count(s, pass);
     let limits = limits_table();
     let mut pending = no_run();
     for edge in 0..count {
         pending = filter_edge(
-            samples, g, s, pass, sharpness, depth, &limits, outer, inner, edge, pending,
+            samples, g, s, pass, sharpness, depth, &limits, keys, edge, pending,
         );
     }
     filter_pending(samples, g, s, pass, sharpness, depth, &limits, pending);

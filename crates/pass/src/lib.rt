@@ -3,6 +3,7 @@
 
 ghost use Rattle.std.specs.Prelude.{◌≡◌, true, ◌*◌, ◌≤◌, length};
 ghost use Rattle.base.specs.Depth.{supported};
+ghost use Rattle.base.specs.Fault.{returned_of};
 ghost use Rattle.base.specs.First.{refuse_first};
 ghost use Rattle.base.specs.Outcome.{accepted, Answers};
 ghost use Rattle.base.specs.Width.{U16};
@@ -11,18 +12,19 @@ ghost use Rattle.geometry.specs.Frame.{cells_from};
 ghost use Rattle.decided.specs.Decided.{setting};
 ghost use Rattle.decisions.specs.Decision.{levelless};
 ghost use Rattle.pass_edges.specs.PassEdges.{edge_count};
-ghost use Rattle.faults.specs.Faults.{lists_refused, returned_of};
+ghost use Rattle.faults.specs.Faults.{lists_refused};
 ghost use Rattle.pass.specs.Pass.{superblock_loop_filter, superblock_loop_filter_cells};
 ghost use Rattle.pass.specs.WorkLaws.{Ready};
 
 mod edge;
 
+use base::fault::Fault;
 use base::is_supported;
 use decided::superblock_of;
 use edge::filter_keys;
-use faults::{PassAnswer, list_faults_unchecked, number_faults};
+use faults::{list_faults_unchecked, number_faults};
 use geometry::{Pass, Superblock};
-use keys::{first_levelless_unchecked, keys_unchecked};
+use keys::keys_unchecked;
 use pass_edges::pass_of;
 use window::WindowShape;
 
@@ -41,9 +43,7 @@ pub fn superblock_loop_filter_unchecked(
     ensures { samples.new ≡ superblock_loop_filter g (setting s chroma sharpness depth cells.now) pass samples.old }
 {
     let keys = keys_unchecked(cells, s, pass, chroma);
-    let outer = keys.outer;
-    let inner = keys.inner;
-    filter_keys(samples, g, s, pass, sharpness, depth, &outer, &inner);
+    filter_keys(samples, g, s, pass, sharpness, depth, &keys);
 }
 
 // All but the levels is tested. The keys tell whether one lacks, and are what the work goes by: nothing is decided twice.
@@ -56,18 +56,16 @@ fn test_levels_and_filter(
     chroma: bool,
     sharpness: u8,
     depth: u8,
-) -> PassAnswer
+) -> Result<(), Fault>
     requires { Ready g (setting s chroma sharpness depth cells.now) samples.old }
     ensures { Answers (refuse_first (levelless s pass chroma cells.now) (64 * edge_count s pass) 14 (accepted (superblock_loop_filter g (setting s chroma sharpness depth cells.now) pass samples.old))) (returned_of result) samples.old samples.new }
 {
     let keys = keys_unchecked(cells, s, pass, chroma);
-    if keys.lacking {
-        return PassAnswer::Level(first_levelless_unchecked(cells, s, pass, chroma));
+    if let Some(place) = keys.lacking {
+        return Err(Fault::NoLevel(place));
     }
-    let outer = keys.outer;
-    let inner = keys.inner;
-    filter_keys(samples, g, s, pass, sharpness, depth, &outer, &inner);
-    PassAnswer::Done
+    filter_keys(samples, g, s, pass, sharpness, depth, &keys);
+    Ok(())
 }
 
 // The numbers are tested: now the lists, and then the work.
@@ -80,15 +78,12 @@ fn test_lists_and_filter(
     chroma: bool,
     sharpness: u8,
     depth: u8,
-) -> PassAnswer
+) -> Result<(), Fault>
     requires { Placed s × (cells_from s.row s.cols s.rows ≤ length cells.now) × (sharpness ≤ 7) × (supported depth ≡ true) }
     ensures { Answers (lists_refused g (setting s chroma sharpness depth cells.now) pass samples.old (accepted (superblock_loop_filter g (setting s chroma sharpness depth cells.now) pass samples.old))) (returned_of result) samples.old samples.new }
 {
-    let faults = list_faults_unchecked(samples, g, cells, s, depth);
-    if let PassAnswer::Done = faults {
-        return test_levels_and_filter(samples, g, cells, s, pass, chroma, sharpness, depth);
-    }
-    faults
+    list_faults_unchecked(samples, g, cells, s, depth)?;
+    test_levels_and_filter(samples, g, cells, s, pass, chroma, sharpness, depth)
 }
 
 // Takes any samples, any cells and any numbers. A refusal leaves every sample as it was.
@@ -106,10 +101,10 @@ pub fn superblock_loop_filter_cells(
     col: usize,
     plane: u8,
     pass: u8,
-) -> PassAnswer
+) -> Result<(), Fault>
     ensures { Answers (superblock_loop_filter_cells U16 g sharpness depth sub_x sub_y mi_cols mi_rows row col plane pass cells.now samples.old) (returned_of result) samples.old samples.new }
 {
-    let faults = number_faults(
+    number_faults(
         sharpness,
         is_supported(depth),
         sub_x,
@@ -121,19 +116,16 @@ pub fn superblock_loop_filter_cells(
         plane,
         pass,
         cells.len(),
-    );
-    if let PassAnswer::Done = faults {
-        let s = superblock_of(sub_x, sub_y, mi_cols, mi_rows, row, col, plane);
-        return test_lists_and_filter(
-            samples,
-            g,
-            cells,
-            s,
-            pass_of(pass),
-            0 < plane,
-            sharpness,
-            depth,
-        );
-    }
-    faults
+    )?;
+    let s = superblock_of(sub_x, sub_y, mi_cols, mi_rows, row, col, plane);
+    test_lists_and_filter(
+        samples,
+        g,
+        cells,
+        s,
+        pass_of(pass),
+        0 < plane,
+        sharpness,
+        depth,
+    )
 }

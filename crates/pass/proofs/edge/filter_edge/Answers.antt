@@ -10,18 +10,18 @@ pub loop-c-init : goal.loop-c-init
 loop-c-init c =
     let start = c in
     let a = start.args in
-    (omega arith, walk_none _ _ (edge_none a.s a.pass a.outer.now a.inner.now a.edge) start.requires.3)
+    (omega arith, walk_none _ _ (edge_none a.s a.pass a.keys.now.outer a.keys.now.inner a.edge) start.requires.2)
 
 pub key_at_unchecked-key-requires : goal.key_at_unchecked-key-requires
 key_at_unchecked-key-requires c =
     let start = c in
-    (start.requires.1, omega (arith, start.requires.2, edge_count_small start.args.s start.args.pass), c.loop-c-test.true)
+    (omega (arith, start.requires.1, edge_count_small start.args.s start.args.pass), c.loop-c-test.true)
 
 pub filter_cell-pending-requires : goal.filter_cell-pending-requires
 filter_cell-pending-requires c =
     let start = c in
     let loop = c.loop-c in
-    (walk_able loop.invariant.1 start.requires.0, c.key_at_unchecked-key.ensures.1, start.requires.2, c.loop-c-test.true, loop.invariant.1.small, start.requires.4)
+    (walk_able loop.invariant.1 start.requires.0, c.key_at_unchecked-key.ensures.1, start.requires.1, c.loop-c-test.true, loop.invariant.1.small, start.requires.3)
 
 pub loop-c-preserved : goal.loop-c-preserved
 loop-c-preserved c =
@@ -29,7 +29,7 @@ loop-c-preserved c =
     let a = start.args in
     let loop = c.loop-c in (
       omega arith,
-      rw (← edge_next a.s a.pass a.outer.now a.inner.now a.edge loop.c, ← c.key_at_unchecked-key.ensures.0)
+      rw (← edge_next a.s a.pass a.keys.now.outer a.keys.now.inner a.edge loop.c, ← c.key_at_unchecked-key.ensures.0)
           (walk_then loop.invariant.1 c.filter_cell-pending.ensures),
     )
 
