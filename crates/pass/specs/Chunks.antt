@@ -1,7 +1,7 @@
 -- The pass by chunks: along each edge 16 positions at a time, each by the key of its cell.
 -- Assumes nothing.
 use Rattle.std.specs.Prelude.{List, ℕ, zero, suc, ◌+◌, ◌*◌, ◌/◌, ◌%◌, ltb}
-use Rattle.decided.specs.KeyRuns.{key_for}
+use Rattle.keys.specs.Keyed.{key_for}
 use Rattle.geometry.specs.declared.Pass.{Pass}
 use Rattle.geometry.specs.declared.Superblock.{Superblock}
 use Rattle.lanes.specs.KeyLine.{key_line}

@@ -1,5 +1,4 @@
 use mathlib.Core.Path.{◌≡◌}
-use Prim.Native.Nat.{◌-◌}
 use native.Mathlib.Omega.{arith}
 use Rattle.decided.specs.CellWalk.{edge_none, edge_next}
 use Rattle.pass_edges.specs.PassEdgesLaws.{edge_count_small}
