@@ -2,12 +2,10 @@
 -- Assumes nothing.
 use Rattle.std.specs.Prelude.{Bool, not, List, ℕ, ◌^◌, leb, ltb, length}
 use Rattle.base.specs.First.{refuse_first}
-use Rattle.base.specs.Outcome.{Outcome, accepted, refuse, Returned}
+use Rattle.base.specs.Outcome.{Outcome, accepted, refuse}
 use Rattle.base.specs.Width.{Width, admits}
 use Rattle.wide_filter.specs.Taps.{tap}
 use Rattle.line.specs.SampleFiltering.{sample_filtering}
-use Rattle.line.specs.declared.LineAnswer.{LineAnswer}
-use Rattle.line.specs.declared.LineAnswer.TheVariants.{Done, Depth, Short, Sample, Size}
 
 -- the sample at tap k is not below b
 abbrev pub reaches : (b : ℕ) (t : List ℕ) (k : ℕ) → Bool
@@ -27,11 +25,3 @@ lent_line w depth size limit blimit thresh t =
     refuse (not (admits w depth)) 2 0
     (refuse (ltb (length t) 16) 7 0
     (line w depth size limit blimit thresh t))
-
--- document 01's number and place for each answer
-abbrev pub returned_of : LineAnswer → Returned
-returned_of Done = record { number = 0; place = 0 }
-returned_of Depth = record { number = 2; place = 0 }
-returned_of Short = record { number = 7; place = 0 }
-returned_of (Sample k) = record { number = 13; place = k }
-returned_of Size = record { number = 15; place = 0 }

@@ -3,33 +3,27 @@
 
 ghost use Rattle.std.specs.Prelude.{◌≡◌, true, ◌<◌};
 ghost use Rattle.base.specs.Depth.{supported};
-ghost use Rattle.base.specs.First.{first, found};
+ghost use Rattle.base.specs.Fault.{returned_of};
+ghost use Rattle.base.specs.First.{first_found};
 ghost use Rattle.base.specs.Outcome.{Answers};
 ghost use Rattle.base.specs.Width.{U16};
 ghost use Rattle.line.specs.SampleFiltering.{sample_filtering};
-ghost use Rattle.line.specs.Line.{reaches, line, returned_of};
+ghost use Rattle.line.specs.Line.{reaches, line};
 
 mod depth;
 mod masks;
 mod narrow;
 
+use base::fault::Fault;
 use base::is_supported;
+use base::search::first_place;
 use depth::scaled;
 use masks::{filter_mask, flat_mask, flat_mask2, hev_mask};
 use narrow::narrow_filter;
 use wide_filter::{wide_filter_fourteen, wide_filter_six};
 
-// What became of a line: it was filtered, or refused.
-#[derive(Clone, Copy)]
-pub enum LineAnswer {
-    Done,
-    Depth,
-    Short,
-    Sample(usize),
-    Size,
-}
-
 // The work without the tests, for a caller that has made them.
+#[tactic(auto, unfolding(crate::specs::SampleFiltering::sample_filtering))]
 pub fn sample_filtering_unchecked(
     t: &mut [u16; 16],
     depth: u8,
@@ -56,30 +50,15 @@ pub fn sample_filtering_unchecked(
     wide_filter_fourteen(t);
 }
 
-// Whether a sample is not below the bound.
-fn any_reaches(t: &[u16; 16], bound: u16) -> bool
-    ensures { result ≡ found (reaches bound t.now) 16 }
+// The first tap whose sample is not below the bound.
+fn first_reaching(t: &[u16; 16], bound: u16) -> Option<usize>
+    ensures { result ≡ first_found (reaches bound t.now) 16 }
 {
-    let mut any = false;
-    for k in 0..16 {
-        any = any | (bound <= t[k]);
-    }
-    any
-}
-
-// The first tap whose sample is not below the bound, or 16.
-fn first_reaching(t: &[u16; 16], bound: u16) -> usize
-    ensures { result ≡ first (reaches bound t.now) 16 }
-{
-    for k in 0..16 {
-        if bound <= t[k] {
-            return k;
-        }
-    }
-    16
+    first_place(16, |k| bound <= t[k])
 }
 
 // Takes any samples and any numbers. A refusal leaves the samples as they were.
+#[tactic(auto, unfolding(crate::specs::Line::line, base::specs::Depth::supported), using(base::specs::First::place_found, base::specs::First::no_place))]
 pub fn sample_filtering(
     t: &mut [u16; 16],
     depth: u8,
@@ -87,19 +66,18 @@ pub fn sample_filtering(
     limit: u8,
     blimit: u8,
     thresh: u8,
-) -> LineAnswer
+) -> Result<(), Fault>
     ensures { Answers (line U16 depth size limit blimit thresh t.old) (returned_of result) t.old t.new }
 {
     if !is_supported(depth) {
-        return LineAnswer::Depth;
+        return Err(Fault::Depth);
     }
-    let bound = (2 * scaled(128, depth)) as u16;
-    if any_reaches(t, bound) {
-        return LineAnswer::Sample(first_reaching(t, bound));
+    if let Some(k) = first_reaching(t, 1 << depth) {
+        return Err(Fault::Sample(k));
     }
     if 2 < size {
-        return LineAnswer::Size;
+        return Err(Fault::FilterSize);
     }
     sample_filtering_unchecked(t, depth, size, limit, blimit, thresh);
-    LineAnswer::Done
+    Ok(())
 }

@@ -8,11 +8,7 @@ use wide_filter::taps::*;
 fn abs_diff(a: u16, b: u16) -> u32
     ensures { (result ≡ abs_diff a b) × (result < 65536) }
 {
-    if a < b {
-        (b - a) as u32
-    } else {
-        (a - b) as u32
-    }
+    u32::from(a.abs_diff(b))
 }
 
 fn near(limit: u32, a: u16, b: u16) -> bool
@@ -28,12 +24,14 @@ fn small_step(blimit: u32, p1: u16, p0: u16, q0: u16, q1: u16) -> bool
     abs_diff(p0, q0) * 2 + abs_diff(p1, q1) / 2 <= blimit
 }
 
+#[tactic(auto, unfolding(crate::specs::Masks::hev_mask))]
 pub(crate) fn hev_mask(t: &[u16; 16], thresh: u32) -> bool
     ensures { result ≡ hev_mask thresh t.now }
 {
     (thresh < abs_diff(t[P1], t[P0])) | (thresh < abs_diff(t[Q1], t[Q0]))
 }
 
+#[tactic(auto, unfolding(crate::specs::Masks::filter_mask))]
 pub(crate) fn filter_mask(t: &[u16; 16], limit: u32, blimit: u32) -> bool
     ensures { result ≡ filter_mask limit blimit t.now }
 {
@@ -53,6 +51,7 @@ fn flat_at(one: u32, pk: u16, p0: u16, qk: u16, q0: u16) -> bool
     near(one, pk, p0) & near(one, qk, q0)
 }
 
+#[tactic(auto, unfolding(crate::specs::Masks::flat_mask, crate::specs::Masks::flat_at))]
 pub(crate) fn flat_mask(t: &[u16; 16], one: u32) -> bool
     ensures { result ≡ flat_mask one t.now }
 {
@@ -61,6 +60,7 @@ pub(crate) fn flat_mask(t: &[u16; 16], one: u32) -> bool
         & flat_at(one, t[P3], t[P0], t[Q3], t[Q0])
 }
 
+#[tactic(auto, unfolding(crate::specs::Masks::flat_mask2, crate::specs::Masks::flat_at))]
 pub(crate) fn flat_mask2(t: &[u16; 16], one: u32) -> bool
     ensures { result ≡ flat_mask2 one t.now }
 {

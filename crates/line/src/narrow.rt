@@ -2,7 +2,7 @@
 ghost use Rattle.std.specs.Prelude.{◌≡◌, cond, true, ◌<◌, pos, ◌+ℤ◌, ◌-ℤ◌, ◌*ℤ◌};
 ghost use Rattle.std.specs.Int.Signed.{mag};
 ghost use Rattle.base.specs.Depth.{supported};
-ghost use Rattle.base.specs.Notation.{clip3, asr_z, round2_z};
+ghost use Rattle.base.specs.Notation.{asr_z, round2_z};
 ghost use Rattle.line.specs.NarrowFilter.{c, offset, signed, sample, narrow_filter};
 
 use crate::depth::scaled;
@@ -16,32 +16,21 @@ fn offset(depth: u8) -> i32
     scaled(128, depth) as i32
 }
 
-fn clip3(lo: i32, hi: i32, v: i32) -> i32
-    ensures { result ≡ clip3 lo hi v }
-{
-    if v < lo {
-        return lo;
-    }
-    if hi < v {
-        return hi;
-    }
-    v
-}
-
 // c( v ).
+#[tactic(auto, unfolding(crate::specs::NarrowFilter::c, base::specs::Notation::clip3), using(base::specs::Depth::depth_scaled))]
 fn clip(v: i32, depth: u8) -> i32
     requires { supported depth ≡ true }
     ensures { (result ≡ c depth v) × (mag result < 2048) }
 {
     let half = offset(depth);
-    clip3(-half, half - 1, v)
+    v.clamp(-half, half - 1)
 }
 
 fn signed(x: u16, depth: u8) -> i32
     requires { supported depth ≡ true }
     ensures { (result ≡ signed depth x) × (mag result < 131072) }
 {
-    x as i32 - offset(depth)
+    i32::from(x) - offset(depth)
 }
 
 fn sample(v: i32, depth: u8) -> u16

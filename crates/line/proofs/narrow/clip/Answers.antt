@@ -1,33 +1,24 @@
-use mathlib.Core.Path.{◌≡◌, refl, ◌∙◌}
-use native.Mathlib.Omega.{arith}
-use lib.IntN.{pos, ◌-ℤ◌}
-use mir.Syntax.{w32}
-use mir.Facts.{to_z-of_z}
-use Rattle.base.specs.Depth.{depth_scaled}
-use Rattle.base.specs.Machine.{back, Far, minus_fits, minus_read}
+use Rattle.std.proofs.Common.{◌≡◌, refl, ◌∙◌, ℤ, pos, ◌-ℤ◌, ◌≤ℤ◌, w32, arith, to_z-of_z}
+use Rattle.std.proofs.lemmas.Int.{ints}
+use Rattle.std.specs.Int.{int_max, int_min}
+use Rattle.base.specs.Machine.{back, Far, minus_read}
 use Rattle.base.specs.Notation.{clip3}
-use Rattle.line.specs.NarrowFilter.{c, offset}
+use Rattle.line.specs.NarrowFilter.{c}
 use Rattle.line.specs.NarrowFilterLaws.{c_is, c_small}
+use Rattle.base.specs.Depth.{depth_scaled}
 use Rattle.line.proofs.narrow.clip.Goals as goal
 
-pub overflow_sub-half : goal.overflow_sub-half
-overflow_sub-half x = minus_fits (pos 0) x.offset-half.result (record { far = omega arith }) (record { far = omega arith })
-
-pub overflow_sub-half-2 : goal.overflow_sub-half-2
-overflow_sub-half-2 x = minus_fits x.offset-half.result (pos 1) (record { far = omega arith }) (record { far = omega arith })
+clamped : (lo hi v : ℤ) → lo ≤ℤ hi → int_max lo (int_min v hi) ≡ clip3 lo hi v
+unfolding clip3
+clamped lo hi v h = grind (arith, ints)
 
 pub returns : goal.returns
 returns x =
-    let a = x in
     let half = x.offset-half.result in
     let far : Far half = record { far = omega arith } in
-    let read : x.clip3.result ≡ clip3 (pos 0 -ℤ half) (half -ℤ pos 1) a.args.v =
-    rw (minus_read (pos 0) half (record { far = omega arith }) far, minus_read half (pos 1) far (record { far = omega arith }), to_z-of_z a.ranges.v) at x.clip3.ensures in
-    let same : x.clip3.result ≡ c a.args.depth a.args.v =
-    (rw x.offset-half.ensures.0 at read) ∙ c_is a.args.depth a.requires a.args.v in
-    let s = depth_scaled a.args.depth a.requires in
-    rw (back w32 x.clip3.type_inv, same) (refl, omega (arith, c_small a.args.depth a.requires a.args.v))
-
-pub offset-half-requires : goal.offset-half-requires
-offset-half-requires x =
-    x.requires
+    let s = depth_scaled x.args.depth x.requires in
+    let value : x.clamp.result ≡ int_max (pos 0 -ℤ half) (int_min x.args.v (half -ℤ pos 1)) =
+    rw (minus_read (pos 0) half (record { far = omega arith }) far, minus_read half (pos 1) far (record { far = omega arith }), to_z-of_z x.ranges.v) at x.clamp.ensures.value in
+    let same : x.clamp.result ≡ c x.args.depth x.args.v =
+    value ∙ (rw x.offset-half.ensures.0 (clamped _ _ _ (omega (arith, ints))) ∙ c_is x.args.depth x.requires x.args.v) in
+    rw (back w32 x.clamp.type_inv, same) (refl, omega (arith, c_small x.args.depth x.requires x.args.v))

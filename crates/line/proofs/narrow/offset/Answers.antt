@@ -10,7 +10,3 @@ pub returns : goal.returns
 returns c =
     let s = depth_scaled c.args.depth c.requires in
     rw (back w32 {z = pos c.scaled.result} (omega arith)) (rw c.scaled.ensures.0 refl, omega arith)
-
-pub scaled-requires : goal.scaled-requires
-scaled-requires c =
-    c.requires

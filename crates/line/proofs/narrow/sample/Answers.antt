@@ -2,13 +2,10 @@ use Prim.Native.Nat.{◌-◌, ◌*◌, ◌^◌}
 use native.Mathlib.Omega.{arith}
 use mir.Facts.{to_z-of_z}
 use Rattle.base.specs.Depth.{depth_scaled}
-use Rattle.base.specs.Machine.{plus_fits, plus_read}
+use Rattle.base.specs.Machine.{plus_read}
 use Rattle.line.specs.NarrowFilter.{c, offset, sample}
 use Rattle.line.specs.NarrowFilterLaws.{c_small, raised_sign, raised_small}
 use Rattle.line.proofs.narrow.sample.Goals as goal
-
-pub overflow_add-result : goal.overflow_add-result
-overflow_add-result x = plus_fits x.clip.result x.offset.result (record { far = omega arith }) (record { far = omega arith })
 
 pub overflow_cast-result : goal.overflow_cast-result
 overflow_cast-result x =
@@ -34,11 +31,3 @@ returns x =
       x.offset.ensures.0,
       to_z-of_z x.ranges.v,
     )
-
-pub clip-requires : goal.clip-requires
-clip-requires x =
-    x.requires
-
-pub offset-requires : goal.offset-requires
-offset-requires x =
-    x.requires

@@ -1,4 +1,0 @@
-use Rattle.line.proofs.masks.flat_at.Goals as goal
-
-pub returns : goal.returns
-returns c = rw (c.near.ensures, c.near-2.ensures)

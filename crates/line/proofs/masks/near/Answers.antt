@@ -1,4 +1,0 @@
-use Rattle.line.proofs.masks.near.Goals as goal
-
-pub returns : goal.returns
-returns c = rw c.abs_diff.ensures.0
