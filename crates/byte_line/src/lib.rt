@@ -2,32 +2,30 @@
 #![tactic(auto)]
 
 ghost use Rattle.std.specs.Prelude.{◌≡◌, ◌++◌, ◌≤◌, length, take, drop};
+ghost use Rattle.base.specs.Fault.{returned_of};
 ghost use Rattle.base.specs.Outcome.{Answers};
 ghost use Rattle.base.specs.Width.{Byte};
-ghost use Rattle.line.specs.Line.{lent_line, returned_of};
+ghost use Rattle.line.specs.Line.{lent_line};
 ghost use Rattle.line.specs.SampleFiltering.{sample_filtering};
 ghost use Rattle.wide_filter.specs.Taps.{Within};
 
-use line::{LineAnswer, sample_filtering_unchecked};
+use base::fault::Fault;
+use line::sample_filtering_unchecked;
+use std::array;
 
 fn widened(t: &[u8]) -> [u16; 16]
     requires { 16 ≤ length t.now }
     ensures { result ≡ take 16 t.now }
 {
-    let mut wide = [0u16; 16];
-    for k in 0..16 {
-        wide[k] = t[k] as u16;
-    }
-    wide
+    array::from_fn(|k| u16::from(t[k]))
 }
 
 fn store_narrowed(t: &mut [u8], wide: &[u16; 16])
     requires { (16 ≤ length t.old) × (length wide.now ≡ 16) × Within 256 wide.now }
     ensures { t.new ≡ wide.now ++ drop 16 t.old }
 {
-    for k in 0..16 {
-        t[k] = wide[k] as u8;
-    }
+    let narrow: [u8; 16] = array::from_fn(|k| wide[k] as u8);
+    t[..16].copy_from_slice(&narrow);
 }
 
 // The first 16 bytes are the line, and those behind it stay as they are. The work without tests, for a caller that has
@@ -49,18 +47,18 @@ pub fn sample_filtering_bytes(
     limit: u8,
     blimit: u8,
     thresh: u8,
-) -> LineAnswer
+) -> Result<(), Fault>
     ensures { Answers (lent_line Byte depth size limit blimit thresh t.old) (returned_of result) t.old t.new }
 {
     if depth != 8 {
-        return LineAnswer::Depth;
+        return Err(Fault::Depth);
     }
     if t.len() < 16 {
-        return LineAnswer::Short;
+        return Err(Fault::Short);
     }
     if 2 < size {
-        return LineAnswer::Size;
+        return Err(Fault::FilterSize);
     }
     sample_filtering_bytes_unchecked(t, size, limit, blimit, thresh);
-    LineAnswer::Done
+    Ok(())
 }

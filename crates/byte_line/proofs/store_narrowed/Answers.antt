@@ -1,29 +1,11 @@
-use mathlib.Core.Path.{◌≡◌, refl}
-use Prim.Native.Nat.{◌-◌}
-use native.Mathlib.Omega.{arith}
-use lib.ListN.{length, length-set}
+use Rattle.std.proofs.Common.{◌≡◌, refl, ◌∙◌, ap, ◌++◌, drop, List, ℕ, get_or, arith, rules}
 use lib.Seq.{take_all}
-use Rattle.base.specs.Copied.{copied_none, copied_more}
+use Rattle.base.specs.FromFn.{from_fn_filled}
+use Rattle.byte_line.proofs.Taken.{taken}
 use Rattle.byte_line.proofs.store_narrowed.Goals as goal
-
-pub loop-k-init : goal.loop-k-init
-loop-k-init c = (omega arith, refl, copied_none c.args.wide.now _)
-
-pub overflow_cast-t : goal.overflow_cast-t
-overflow_cast-t c = omega (arith, c.requires.2.below c.loop-k.k (omega arith))
-
-pub loop-k-preserved : goal.loop-k-preserved
-loop-k-preserved c =
-    let l = c.loop-k in
-    let a = c.args in (
-      omega arith,
-      simp length-set l.invariant.1,
-      rw l.invariant.2 (copied_more a.wide.now a.t.now l.k 0 (omega arith) (omega arith)),
-    )
 
 pub returns : goal.returns
 returns c =
-    let l = c.loop-k in
-    let s = c in
-    let all : l.k ≡ 16 = omega arith in
-    rw (all, take_all 16 s.args.wide.now (omega arith)) at l.invariant.2
+    let wide = c.args.wide.now in
+    let narrow = from_fn_filled _ (λ k. get_or wide k 0) (λ p. p.0.now ≡ wide) (λ p q i y h k. search rules) _ _ _ refl c.from_fn-narrow.ensures.items in
+    ap (λ (l : List ℕ). l ++ drop 16 c.args.t.now) (c.copy_from_slice.ensures.after ∙ narrow ∙ taken wide 16 (omega arith) ∙ take_all 16 wide (omega arith))
