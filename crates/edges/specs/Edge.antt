@@ -1,7 +1,7 @@
 -- Document 01's edge facts: 8.8.2 steps 1 to 15 at one position, with refusals.
 -- Assumes nothing.
 use Rattle.std.specs.Prelude.{Bool, ◌||◌, ℕ, eqb, ltb, leb}
-use Rattle.base.specs.Outcome.{Outcome, accepted, refused, refuse}
+use Rattle.base.specs.Outcome.{Outcome, accepted, refuse}
 use Rattle.blocks.specs.BlockSizes.{num8x8_wide, num8x8_high}
 use Rattle.blocks.specs.ModeInfo.{bad_block, sb_size, is_intra}
 use Rattle.geometry.specs.Frame.{bad_subsampling, bad_frame_size, bad_start}
@@ -13,8 +13,6 @@ use Rattle.pass_edges.specs.PassEdges.{sub, edge_count, edge_len, pass_of}
 use Rattle.edge_steps.specs.FilterSize.{filter_size}
 use Rattle.edges.specs.declared.SuperblockFilterMi.{SuperblockFilterMi}
 use Rattle.edges.specs.declared.SuperblockFilterEdge.{SuperblockFilterEdge}
-use Rattle.edges.specs.declared.EdgeAnswer.{EdgeAnswer}
-use Rattle.edges.specs.declared.EdgeAnswer.TheVariants.{Done, Subsampling, FrameSize, Row, Block, Pass as BadPass, Column, Grid}
 
 -- steps 7 and 10, for a block of size miSize
 abbrev pub block_edge : Superblock → Pass → (x y mi_size : ℕ) → Bool
@@ -62,14 +60,3 @@ superblock_filter_edge pass row col edge i sub_x sub_y mi_cols mi_rows mi =
     (refuse (bad_start col mi_cols) 10 0
     (refuse (off_grid s (pass_of pass) edge i) 16 0
     (accepted (edge_facts s (pass_of pass) edge i mi))))))))
-
--- document 01's number and place, or the facts, for each answer
-abbrev pub outcome_of : EdgeAnswer → Outcome SuperblockFilterEdge
-outcome_of (Done e) = accepted e
-outcome_of Subsampling = refused 3 0
-outcome_of FrameSize = refused 4 0
-outcome_of Row = refused 5 0
-outcome_of Block = refused 8 0
-outcome_of BadPass = refused 9 0
-outcome_of Column = refused 10 0
-outcome_of Grid = refused 16 0

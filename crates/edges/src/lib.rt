@@ -2,10 +2,12 @@
 #![tactic(auto)]
 
 ghost use Rattle.std.specs.Prelude.{◌≡◌, ◌≤◌, ◌<◌};
+ghost use Rattle.base.specs.Fault.{outcome_of};
 ghost use Rattle.blocks.specs.ModeInfoLaws.{Block};
 ghost use Rattle.positions.specs.Positions.{Placed};
-ghost use Rattle.edges.specs.Edge.{block_edge, edge_facts, superblock_filter_edge, outcome_of};
+ghost use Rattle.edges.specs.Edge.{block_edge, edge_facts, superblock_filter_edge};
 
+use base::fault::Fault;
 use blocks::mode_info::{bad_block, is_intra, sb_size};
 use blocks::partition::{num_8x8_high_unchecked, num_8x8_wide_unchecked};
 use edge_steps::filter_size::filter_size;
@@ -17,7 +19,7 @@ use pass_edges::{edge_count, edge_len, pass_of};
 use positions::{luma_x_unchecked, luma_y_unchecked};
 
 // What an edge reads of its cell: MiSize, the transform that holds in the plane, skip, and reference 0.
-#[derive(Clone, Copy)]
+#[derive(Clone, Copy, Debug, PartialEq, Eq)]
 pub struct SuperblockFilterMi {
     pub mi_size: u8,
     pub tx_sz: u8,
@@ -39,30 +41,18 @@ pub struct SuperblockFilterEdge {
     pub size: u8,
 }
 
-// The facts of a position, or the refusal of what was handed over.
-#[derive(Clone, Copy)]
-pub enum EdgeAnswer {
-    Done(SuperblockFilterEdge),
-    Subsampling,
-    FrameSize,
-    Row,
-    Block,
-    Pass,
-    Column,
-    Grid,
-}
-
+#[tactic(auto, unfolding(edge_steps::specs::SuperblockFilter::is_block_edge), using(blocks::specs::ModeInfoLaws::sb_size_small, blocks::specs::BlockSizesLaws::wide_cells, blocks::specs::BlockSizesLaws::high_cells))]
 fn is_block_edge(s: Superblock, pass: Pass, x: Luma, y: Luma, mi_size: u8) -> bool
     requires { mi_size ≤ 12 }
     ensures { result ≡ block_edge s pass x.0 y.0 mi_size }
 {
     match pass {
         Pass::Vertical => {
-            let wide = num_8x8_wide_unchecked(sb_size(s.subx, mi_size)) as usize;
+            let wide = usize::from(num_8x8_wide_unchecked(sb_size(s.subx, mi_size)));
             x.0 % (8 * wide) == 0
         }
         Pass::Horizontal => {
-            let high = num_8x8_high_unchecked(sb_size(s.suby, mi_size)) as usize;
+            let high = usize::from(num_8x8_high_unchecked(sb_size(s.suby, mi_size)));
             y.0 % (8 * high) == 0
         }
     }
@@ -102,6 +92,7 @@ pub fn superblock_filter_edge_unchecked(
 }
 
 // Takes any numbers. The subsampling and the transform are those that hold in the plane.
+#[tactic(auto, unfolding(crate::specs::Edge::superblock_filter_edge, crate::specs::Edge::off_grid))]
 pub fn superblock_filter_edge(
     pass: u8,
     row: usize,
@@ -113,26 +104,26 @@ pub fn superblock_filter_edge(
     mi_cols: usize,
     mi_rows: usize,
     mi: SuperblockFilterMi,
-) -> EdgeAnswer
+) -> Result<SuperblockFilterEdge, Fault>
     ensures { outcome_of result ≡ superblock_filter_edge pass row col edge i sub_x sub_y mi_cols mi_rows mi }
 {
     if bad_subsampling(sub_x, sub_y) {
-        return EdgeAnswer::Subsampling;
+        return Err(Fault::Subsampling);
     }
     if bad_frame_size(mi_cols, mi_rows) {
-        return EdgeAnswer::FrameSize;
+        return Err(Fault::FrameSize);
     }
     if bad_start(row, mi_rows) {
-        return EdgeAnswer::Row;
+        return Err(Fault::Row);
     }
     if bad_block(mi.mi_size, mi.tx_sz, mi.skip) {
-        return EdgeAnswer::Block;
+        return Err(Fault::Block(0));
     }
     if 1 < pass {
-        return EdgeAnswer::Pass;
+        return Err(Fault::PlaneOrPass);
     }
     if bad_start(col, mi_cols) {
-        return EdgeAnswer::Column;
+        return Err(Fault::Column);
     }
     let s = Superblock {
         subx: sub_x == 1,
@@ -144,7 +135,7 @@ pub fn superblock_filter_edge(
     };
     let direction = pass_of(pass);
     if (edge_count(s, direction) <= edge) | (edge_len(s, direction) <= i) {
-        return EdgeAnswer::Grid;
+        return Err(Fault::Position);
     }
-    EdgeAnswer::Done(superblock_filter_edge_unchecked(s, direction, edge, i, mi))
+    Ok(superblock_filter_edge_unchecked(s, direction, edge, i, mi))
 }
