@@ -16,7 +16,7 @@ use edge_steps::superblock_filter::{
 };
 use geometry::{Luma, Pass, Superblock, bad_frame_size, bad_start, bad_subsampling};
 use pass_edges::{edge_count, edge_len, pass_of};
-use positions::{luma_x_unchecked, luma_y_unchecked};
+use positions::EdgePosition;
 
 // What an edge reads of its cell: MiSize, the transform that holds in the plane, skip, and reference 0.
 #[derive(Clone, Copy, Debug, PartialEq, Eq)]
@@ -69,8 +69,9 @@ pub fn superblock_filter_edge_unchecked(
     requires { Placed s × (edge < 16) × (i < 64) × Block mi.mi_size mi.tx_sz mi.skip }
     ensures { result ≡ edge_facts s pass edge i mi }
 {
-    let x = luma_x_unchecked(s, pass, edge, i);
-    let y = luma_y_unchecked(s, pass, edge, i);
+    let position = EdgePosition { s, pass, edge, i };
+    let x = position.luma_x();
+    let y = position.luma_y();
     let block = is_block_edge(s, pass, x, y, mi.mi_size);
     let transform = is_tx_edge_unchecked(s, pass, edge, x, mi.tx_sz);
     let is_32 = is_32_edge(edge);

@@ -30,6 +30,6 @@ returns c =
       at-screen.is_32_edge-is_32.ensures,
       at-tx.is_tx_edge_unchecked-transform.ensures,
       at-tx.is_block_edge-block.ensures,
-      luma (luma_y a.s a.pass a.edge a.i) at_y.luma_y_unchecked-y.ensures.0,
-      luma (luma_x a.s a.pass a.edge a.i) at_y.luma_x_unchecked-x.ensures.0,
+      luma (luma_y a.s a.pass a.edge a.i) at_y.luma_y-y.ensures.0,
+      luma (luma_x a.s a.pass a.edge a.i) at_y.luma_x-x.ensures.0,
     )
