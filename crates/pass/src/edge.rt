@@ -12,7 +12,7 @@ use decided::{EdgeRun, joins_unchecked, key_run_unchecked, longer_unchecked, no_
 use geometry::{Pass, Superblock};
 use keys::Keys;
 use pass_edges::edge_count;
-use positions::{plane_x_unchecked, plane_y_unchecked};
+use positions::EdgePosition;
 use runs::filter_run_unchecked;
 use strength::{limits_table, strength_by_unchecked};
 use window::WindowShape;
@@ -32,8 +32,14 @@ fn filter_pending(
     ensures { samples.new ≡ run_filtered g s pass sharpness depth a samples.old }
 {
     if 0 < a.level {
-        let x = plane_x_unchecked(s, pass, a.edge, a.first);
-        let y = plane_y_unchecked(s, pass, a.edge, a.first);
+        let start = EdgePosition {
+            s,
+            pass,
+            edge: a.edge,
+            i: a.first,
+        };
+        let x = start.plane_x();
+        let y = start.plane_y();
         let strength = strength_by_unchecked(limits, a.level, sharpness);
         filter_run_unchecked(samples, g, pass, x, y, a.count, depth, a.size, strength);
     }

@@ -9,13 +9,13 @@ strength_by_unchecked-strength-requires c = let p = c.requires in (p.2, p.1.leve
 pub filter_run_unchecked-requires : goal.filter_run_unchecked-requires
 filter_run_unchecked-requires c =
     let p = c.requires in
-    (p.0.window, omega (arith, c.plane_x_unchecked-x.ensures.1), omega (arith, c.plane_y_unchecked-y.ensures.1), p.1.count, p.0.deep, p.1.size, range_wider _ _ 4096 _ (depth_12 _ p.0.deep) p.0.range)
+    (p.0.window, omega (arith, c.plane_x-x.ensures.1), omega (arith, c.plane_y-y.ensures.1), p.1.count, p.0.deep, p.1.size, range_wider _ _ 4096 _ (depth_12 _ p.0.deep) p.0.range)
 
 pub returns-then-a-gt0 : goal.returns-then-a-gt0
 returns-then-a-gt0 c =
     let a = c.args in
     filtered_on a.g a.s a.pass a.sharpness a.depth a.a c.if-a-gt0.true _ _ _
-    c.plane_x_unchecked-x.ensures.0 c.plane_y_unchecked-y.ensures.0 c.strength_by_unchecked-strength.ensures _ _ c.filter_run_unchecked.ensures
+    c.plane_x-x.ensures.0 c.plane_y-y.ensures.0 c.strength_by_unchecked-strength.ensures _ _ c.filter_run_unchecked.ensures
 
 pub returns-else-a-gt0 : goal.returns-else-a-gt0
 returns-else-a-gt0 c =
