@@ -1,6 +1,7 @@
 -- A chunk filtered in lanes is its positions in turn.
 -- Assumes nothing.
-use Rattle.std.specs.Prelude.{◌≡◌, refl, Bool, true, false, List, ◌⊎◌, ℕ, ◌+◌, ◌-◌, ◌*◌, ◌≤◌, ◌<◌, leb, get_or}
+use Rattle.std.specs.Prelude.{◌≡◌, refl, Bool, true, false, List, ◌⊎◌, ℕ, ◌+◌, ◌-◌, ◌*◌, ◌≤◌, ◌<◌, leb, length, get_or, ◌||◌}
+use Rattle.std.specs.List.{fold}
 use Rattle.std.proofs.Common.{sym, ◌∙◌, inl, inr, ⊎_elim, arith, leb-false}
 use Rattle.base.specs.First.{found-false}
 use Rattle.byte_lanes.specs.ByteLanes.{Filtered}
@@ -15,6 +16,11 @@ use Rattle.wide_filter.specs.Taps.{tap}
 use Rattle.window.specs.InsideRun.{plain_lines}
 use Rattle.window.specs.Stencil.{in_turn}
 use Rattle.byte_chunks.specs.Chunk.{any_large}
+use Rattle.byte_chunks.specs.FoundLaws.{fold_found}
+
+-- as the code looks for one
+pub any_large_fold : (keys : List ℕ) → length keys ≡ 16 → fold (λ on key. on || leb 128 key) false keys ≡ any_large keys
+any_large_fold keys long = rw long at (fold_found (λ key. leb 128 key) 0 keys)
 
 reach_few : (all : Bool) → reach all ≤ 8
 reach_few true = omega arith

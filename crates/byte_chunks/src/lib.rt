@@ -1,7 +1,8 @@
 // A chunk of at most 16 positions of an edge in a lent list of bytes: loaded as lanes, filtered by their keys, and stored.
 #![tactic(auto)]
 
-ghost use Rattle.std.specs.Prelude.{◌≡◌, ◌⊎◌, ◌≤◌, get_or};
+ghost use Rattle.std.specs.List.{fold};
+ghost use Rattle.std.specs.Prelude.{◌≡◌, ◌⊎◌, ◌≤◌, get_or, ◌||◌, leb, false};
 ghost use Rattle.byte_lanes.specs.ByteLanes.{Keys};
 ghost use Rattle.lane_runs.specs.Spread.{SpacedRun};
 ghost use Rattle.lanes.specs.KeyLine.{key_line};
@@ -12,17 +13,11 @@ ghost use Rattle.byte_chunks.specs.Chunk.{any_large};
 use byte_lanes::filter_byte_lanes_unchecked;
 use byte_rows::{load_lanes_unchecked, store_lanes_unchecked};
 
-// Whether a lane has a key of size 2, which reads all taps.
+// Whether a lane has a key of size 2, which reads all taps. All keys are looked at, as vectors: `any` would stop at the first.
 fn any_large(keys: &[u8; 16]) -> bool
-    ensures { result ≡ any_large keys.now }
+    ensures { result ≡ fold (λ on key. on || leb 128 key) false keys.now }
 {
-    let mut on = false;
-    let mut l: usize = 0;
-    while l < 16 {
-        on = on | (128 <= keys[l]);
-        l += 1;
-    }
-    on
+    keys.iter().fold(false, |on, key| on | (128 <= *key))
 }
 
 // p7 of the first position is at the place at; taps are step apart and positions along, one of which is 1. Taps that no key reads are

@@ -57,3 +57,13 @@ turned_again to from m n {t} {u} {v} first second = record { turned = entry; lon
 
         digits : (l : ℕ) → l ≡ 2 * (l / 2) + l % 2
         digits l = omega arith
+
+-- four of them turn 16 rows
+pub turned_whole : (to n : ℕ) {t u v w x : List ℕ} → Turned 0 0 2 (8 * n) t u → Turned 0 0 2 (8 * n) u v → Turned 0 0 2 (8 * n) v w → Turned to 0 2 (8 * n) w x → Turned to 0 16 n t x
+turned_whole to n {t} {u} {v} {w} first second third fourth =
+    let p : 8 * n ≡ 2 * (4 * n) = omega arith in
+    let q : 4 * n ≡ 2 * (2 * n) = omega arith in
+    let r : 8 * n ≡ 4 * (2 * n) = omega arith in
+    let two : Turned 0 0 4 (4 * n) t v = turned_again 0 0 2 (4 * n) (rw p at first) (rw p at second) in
+    let three : Turned 0 0 8 (2 * n) t w = turned_again 0 0 4 (2 * n) (rw q at two) (rw r at third) in
+    turned_again to 0 8 n three fourth

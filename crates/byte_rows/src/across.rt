@@ -3,8 +3,8 @@ ghost use Rattle.std.specs.Prelude.{◌≡◌, ◌+◌, ◌-◌, ◌*◌, ◌<�
 ghost use Rattle.lane_runs.specs.Spread.{SpacedRun, Spread, Taken};
 ghost use Rattle.byte_rows.specs.Rows.{reach};
 
-use crate::rows::{load_rows, store_rows};
-use crate::turn::{turn_all, turn_middle, turn_middle_back};
+use crate::turn::{turn, turn_middle_back};
+use lane_runs::rows::{Places, copy_rows_unchecked};
 
 pub(crate) fn load_across(
     t: &mut [u8; 256],
@@ -14,16 +14,23 @@ pub(crate) fn load_across(
     n: usize,
     all: bool,
 )
-    requires { SpacedRun at 1 along n samples.now × (0 < n) × (length t.old ≡ 256) }
+    requires { SpacedRun at 1 along n samples.now × (0 < n) }
     ensures { Taken at 1 along n (8 - reach all) (2 * reach all) samples.now t.new × (length t.new ≡ 256) }
 {
     if all {
-        load_rows(t, 16, samples, at, along, 16, 0, n);
-        turn_all(t);
-        return;
+        let window = Places { at, apart: along };
+        let table = Places { at: 0, apart: 16 };
+        copy_rows_unchecked(t, table, samples, window, 16, 0, n);
+        turn::<16>(t, 0);
+    } else {
+        let window = Places {
+            at: at + 4,
+            apart: along,
+        };
+        let table = Places { at: 0, apart: 8 };
+        copy_rows_unchecked(t, table, samples, window, 8, 0, n);
+        turn::<8>(t, 64);
     }
-    load_rows(t, 8, samples, at + 4, along, 8, 0, n);
-    turn_middle(t);
 }
 
 pub(crate) fn store_across(
@@ -34,14 +41,21 @@ pub(crate) fn store_across(
     t: &mut [u8; 256],
     all: bool,
 )
-    requires { SpacedRun at 1 along n samples.old × (0 < n) × (length t.old ≡ 256) }
+    requires { SpacedRun at 1 along n samples.old × (0 < n) }
     ensures { Spread at 1 along n (8 - reach all) (2 * reach all) (λ l k. get_or t.old (16 * k + l) 0) samples.old samples.new }
 {
     if all {
-        turn_all(t);
-        store_rows(samples, at, along, t, 16, 16, 0, n);
-        return;
+        turn::<16>(t, 0);
+        let window = Places { at, apart: along };
+        let table = Places { at: 0, apart: 16 };
+        copy_rows_unchecked(samples, window, t, table, 16, 0, n);
+    } else {
+        turn_middle_back(t);
+        let window = Places {
+            at: at + 4,
+            apart: along,
+        };
+        let table = Places { at: 0, apart: 8 };
+        copy_rows_unchecked(samples, window, t, table, 8, 0, n);
     }
-    turn_middle_back(t);
-    store_rows(samples, at + 4, along, t, 8, 8, 0, n);
 }

@@ -3,7 +3,7 @@ ghost use Rattle.std.specs.Prelude.{◌≡◌, ◌+◌, ◌-◌, ◌*◌, ◌<�
 ghost use Rattle.lane_runs.specs.Spread.{SpacedRun, Spread, Taken};
 ghost use Rattle.byte_rows.specs.Rows.{reach};
 
-use crate::rows::{load_rows, store_rows};
+use lane_runs::rows::{Places, copy_rows_unchecked};
 
 pub(crate) fn load_down(
     t: &mut [u8; 256],
@@ -13,14 +13,16 @@ pub(crate) fn load_down(
     n: usize,
     all: bool,
 )
-    requires { SpacedRun at step 1 n samples.now × (0 < n) × (length t.old ≡ 256) }
+    requires { SpacedRun at step 1 n samples.now × (0 < n) }
     ensures { Taken at step 1 n (8 - reach all) (2 * reach all) samples.now t.new × (length t.new ≡ 256) }
 {
+    let window = Places { at, apart: step };
+    let table = Places { at: 0, apart: 16 };
     if all {
-        load_rows(t, 16, samples, at, step, n, 0, 16);
-        return;
+        copy_rows_unchecked(t, table, samples, window, n, 0, 16);
+    } else {
+        copy_rows_unchecked(t, table, samples, window, n, 4, 8);
     }
-    load_rows(t, 16, samples, at, step, n, 4, 8);
 }
 
 pub(crate) fn store_down(
@@ -34,9 +36,11 @@ pub(crate) fn store_down(
     requires { SpacedRun at step 1 n samples.old × (0 < n) }
     ensures { Spread at step 1 n (8 - reach all) (2 * reach all) (λ l k. get_or t.now (16 * k + l) 0) samples.old samples.new }
 {
+    let window = Places { at, apart: step };
+    let table = Places { at: 0, apart: 16 };
     if all {
-        store_rows(samples, at, step, t, 16, n, 0, 16);
-        return;
+        copy_rows_unchecked(samples, window, t, table, n, 0, 16);
+    } else {
+        copy_rows_unchecked(samples, window, t, table, n, 4, 8);
     }
-    store_rows(samples, at, step, t, 16, n, 4, 8);
 }

@@ -7,8 +7,6 @@ ghost use Rattle.byte_rows.specs.Rows.{reach};
 
 mod across;
 mod down;
-mod row;
-mod rows;
 mod turn;
 
 use across::{load_across, store_across};
@@ -26,7 +24,7 @@ pub fn load_lanes_unchecked(
     n: usize,
     all: bool,
 )
-    requires { SpacedRun at step along n samples.now × (0 < n) × ((step ≡ 1) ⊎ (along ≡ 1)) × (length t.old ≡ 256) }
+    requires { SpacedRun at step along n samples.now × (0 < n) × ((step ≡ 1) ⊎ (along ≡ 1)) }
     ensures { Taken at step along n (8 - reach all) (2 * reach all) samples.now t.new × (length t.new ≡ 256) }
 {
     if step == 1 {
@@ -46,7 +44,7 @@ pub fn store_lanes_unchecked(
     t: &mut [u8; 256],
     all: bool,
 )
-    requires { SpacedRun at step along n samples.old × (0 < n) × ((step ≡ 1) ⊎ (along ≡ 1)) × (length t.old ≡ 256) }
+    requires { SpacedRun at step along n samples.old × (0 < n) × ((step ≡ 1) ⊎ (along ≡ 1)) }
     ensures { Spread at step along n (8 - reach all) (2 * reach all) (λ l k. get_or t.old (16 * k + l) 0) samples.old samples.new }
 {
     if step == 1 {

@@ -1,14 +1,14 @@
 -- Laws of samples that are stored position by position, or tap by tap.
 -- Assumes nothing.
-use Rattle.std.specs.Prelude.{◌≡◌, refl, ◌≢◌, true, List, ℕ, zero, suc, ◌+◌, ◌-◌, ◌*◌, ◌/◌, ◌%◌, ◌≤◌, ◌<◌, length, get_or, replicate}
-use Rattle.std.proofs.Common.{sym, ap, ◌∙◌, ⊎_elim, arith, get_or-set_same, get_or-set_other}
+use Rattle.std.specs.Prelude.{◌≡◌, refl, ◌≢◌, ◌⊎◌, true, List, ℕ, zero, suc, ◌+◌, ◌-◌, ◌*◌, ◌/◌, ◌%◌, ◌≤◌, ◌<◌, length, get_or, replicate}
+use Rattle.std.proofs.Common.{sym, ap, ◌∙◌, ⊎_elim, arith}
 use Rattle.std.proofs.Math.Decide.{dec_lt}
-use Rattle.std.proofs.Math.Arith.{digits_div}
 use Rattle.std.proofs.lemmas.List.{length-replicate}
 use Rattle.base.specs.NotationLaws.{split}
 use Rattle.lanes.specs.Lanes.{Table}
 use Rattle.window.specs.Stencil.{scatter}
-use Rattle.window.specs.StencilLaws.{scatter-length, scatter_other}
+use Rattle.window.specs.StencilLaws.{scatter-length, scatter_other, scatter_at as stencil_at}
+use Rattle.window.specs.WindowLaws.{row_unique}
 use Rattle.lane_runs.specs.Spread.{place_of, PlacesApart, Spaced, Spread, SpacedRun, LaneRun, Loaded, Taken}
 
 -- ---- places
@@ -16,34 +16,32 @@ use Rattle.lane_runs.specs.Spread.{place_of, PlacesApart, Spaced, Spread, Spaced
 -- rows at least as far apart as they are wide
 digits_same : {S : ℕ} (q r p s : ℕ) → r < S → s < S → q * S + r ≡ p * S + s → (q ≡ p) × (r ≡ s)
 digits_same {S} q r p s h g e =
-    let same : q ≡ p = sym (digits_div q h) ∙ ap (λ (x : ℕ). x / S) e ∙ digits_div p g in
+    let same : q ≡ p = row_unique q p S r s h g e in
     (same, omega (arith, ap (λ (x : ℕ). x * S) same))
 
 pub spaced_across : (at along n : ℕ) → 16 ≤ along → Spaced at 1 along n
 spaced_across at along n h =
     record { apart = λ l k i j hl hk hi hj e. digits_same {S = along} l k i j (omega arith) (omega arith) (omega arith) }
 
-pub spaced_down : (at step n : ℕ) → n ≤ step → Spaced at step 1 n
-spaced_down at step n h =
+pub rows_apart : (at step n m : ℕ) → n ≤ step → PlacesApart at step 1 n m
+rows_apart at step n m h =
     record { apart = λ l k i j hl hk hi hj e. let (a, b) = digits_same {S = step} k l j i (omega arith) (omega arith) (omega arith) in (b, a) }
+
+pub spaced_down : (at step n : ℕ) → n ≤ step → Spaced at step 1 n
+spaced_down at step n h = rows_apart at step n 16 h
 
 spaced_table : Spaced 0 16 1 16
 spaced_table = spaced_down 0 16 16 (omega arith)
 
+-- of two distances one of which is 1
+pub side_by_side : {a b : ℕ} → (a ≡ 1) ⊎ (b ≡ 1) → (b ≡ 1 → ⊥) → a ≡ 1
+side_by_side unit apart = ⊎_elim (λ e. e) (λ e. absurd (apart e)) unit
+
 -- ---- stores at places of their own
 
 pub scatter_at : (writes sample : ℕ → ℕ) (m : ℕ) (w : List ℕ) → ((i k : ℕ) → i < m → k < m → writes i ≡ writes k → i ≡ k) → (k : ℕ) → k < m → writes k < length w → get_or (scatter (λ i. true) writes sample m w) (writes k) 0 ≡ sample k
-unfolding scatter
-scatter_at writes sample zero w inj k h b = absurd (omega arith)
-scatter_at writes sample (suc m) w inj k h b =
-    ⊎_elim
-    (λ (x : k < m).
-    get_or-set_other (scatter (λ i. true) writes sample m w) (writes m) (writes k) (sample m) 0 (λ e. omega (arith, inj k m (omega arith) (omega arith) e))
-    ∙ scatter_at writes sample m w (λ i j p q. inj i j (omega arith) (omega arith)) k x b)
-    (λ (x : m ≤ k).
-    let y : k ≡ m = omega arith in
-    rw y (get_or-set_same (scatter (λ i. true) writes sample m w) (writes m) (sample m) 0 (omega (arith, scatter-length (λ i. true) writes sample m w, ap writes y))))
-    (split k m)
+scatter_at writes sample m w inj k h b =
+    stencil_at (λ i. true) writes sample m w k 0 h refl b (λ j g t e. inj k j h g e)
 
 module _ (at step along N lo m : ℕ) (v : ℕ → ℕ → ℕ) (w : List ℕ) where
   pub spread_no_lanes : Spread at step along 0 lo m v w w
@@ -113,12 +111,6 @@ module _ (at step along N lo m : ℕ) (v : ℕ → ℕ → ℕ) (w : List ℕ) w
 -- ---- the table
 
 module _ (at step along N lo m : ℕ) (w : List ℕ) where
-  pub loaded_no_lanes : Loaded at step along 0 lo m w (replicate 256 0)
-  loaded_no_lanes = spread_no_lanes 0 16 1 16 lo m _ (replicate 256 0)
-
-  pub loaded_no_taps : (n : ℕ) → Loaded at step along n lo 0 w (replicate 256 0)
-  loaded_no_taps n = spread_no_taps 0 16 1 16 lo m _ (replicate 256 0) n
-
   room : (l k : ℕ) → l < 16 → k < 16 → place_of 0 16 1 l k < length {A = ℕ} (replicate 256 0)
   room l k a b = omega (arith, length-replicate {A = ℕ} 256 0)
 
@@ -127,12 +119,6 @@ module _ (at step along N lo m : ℕ) (w : List ℕ) where
   loaded_lane n t u reads r few taps is inv e =
       let le = r.few in
       spread_lane 0 16 1 16 lo m _ (replicate 256 0) n t u (λ k. 16 * (lo + k) + n) (λ k. get_or w (reads k) 0) spaced_table (omega arith) taps (λ k b. room n k (omega arith) b) (λ k b. omega arith) (λ k b. ap (λ (i : ℕ). get_or w i 0) (is k b)) inv e
-
-  pub loaded_tap : (n : ℕ) (t u : List ℕ) (reads : ℕ → ℕ) → SpacedRun at step along n w → lo + m < 16 → ((l : ℕ) → l < n → reads l ≡ place_of at step along l (lo + m)) → Loaded at step along n lo m w t
-      → u ≡ scatter (λ l. true) (λ l. 16 * (lo + m) + l) (λ l. get_or w (reads l) 0) n t → Loaded at step along n lo (m + 1) w u
-  loaded_tap n t u reads r taps is inv e =
-      let le = r.few in
-      spread-tap 0 16 1 16 lo m _ (replicate 256 0) n t u (λ l. 16 * (lo + m) + l) (λ l. get_or w (reads l) 0) spaced_table (omega arith) taps (λ l b. room l (lo + m) (omega arith) taps) (λ l b. omega arith) (λ l b. ap (λ (i : ℕ). get_or w i 0) (is l b)) inv e
 
 pub spread-taken : {at step along n lo m : ℕ} {w t u : List ℕ} → Spread 0 16 1 n lo m (λ l k. get_or w (place_of at step along l k) 0) t u → Taken at step along n lo m w u
 spread-taken {u = u} loaded = record { taken = λ l k a b d. ap (λ (i : ℕ). get_or u i 0) (omega arith) ∙ loaded.done l k a b d }

@@ -10,9 +10,12 @@ ghost use Rattle.lane_runs.specs.Spread.{LaneRun};
 
 mod across;
 mod down;
+mod lines;
+pub mod rows;
 
-use across::filter_across;
-use down::filter_down;
+use across::Across;
+use down::Down;
+use lines::filter_lines;
 use strength::FilterStrength;
 
 // n positions: p7 of the first is at the place at, taps are step apart and positions along, one of them 1. The work without tests,
@@ -34,8 +37,8 @@ pub fn filter_lane_run_unchecked(
         return;
     }
     if along == 1 {
-        filter_down(samples, at, step, n, depth, size, strength);
+        filter_lines(Down { step }, samples, at, n, depth, size, strength);
     } else {
-        filter_across(samples, at, along, n, depth, size, strength);
+        filter_lines(Across { along }, samples, at, n, depth, size, strength);
     }
 }

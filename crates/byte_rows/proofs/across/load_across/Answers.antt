@@ -1,45 +1,31 @@
-use mathlib.Core.Path.{◌∙◌}
-use Prim.Native.Nat.{◌+◌}
-use native.Mathlib.Omega.{arith}
-use Rattle.byte_rows.specs.RowsLaws.{across_rows, across_taken}
+use Rattle.std.proofs.Common.{◌+◌, arith}
+use Rattle.byte_rows.specs.RowsLaws.{across_rows, table_rows, across_loaded}
 use Rattle.byte_rows.proofs.across.load_across.Goals as goal
 
-pub load_rows-requires : goal.load_rows-requires
-load_rows-requires c =
-    let start = c in
-    let a = start.args in
-    (across_rows a.at a.along a.n 0 16 a.at (omega arith) (omega arith) start.requires.0 (omega arith), start.requires.2)
-
-pub turn_all-requires : goal.turn_all-requires
-turn_all-requires c = c.load_rows.ensures.long ∙ c.requires.2
+pub copy_rows_unchecked-requires : goal.copy_rows_unchecked-requires
+copy_rows_unchecked-requires c =
+    let a = c.args in
+    let (run, some) = c.requires in
+    (omega (arith, run.few), table_rows a.at a.along a.n 0 16 a.at (omega arith) (omega arith) _ run.few c.told-t, across_rows a.at a.along a.n 0 16 a.at (omega arith) (omega arith) run (omega arith))
 
 pub returns-then-all : goal.returns-then-all
 returns-then-all c =
-    let rows = c in
-    let start = rows in
-    let a = start.args in
-    rw rows.if-all.true
-    (across_taken a.at a.along a.n 0 16 a.at (omega arith) (omega arith) a.samples.now a.t.now _ _ start.requires.0.few rows.load_rows.ensures c.turn_all.ensures, c.turn_all.ensures.long)
+    let a = c.args in
+    rw c.if-all.true
+    (across_loaded a.at a.along a.n 0 16 a.at (omega arith) (omega arith) a.samples.now a.t.now _ c.requires.0 (omega arith) c.told-t (rw c.copy_rows_unchecked.ensures at c.turn.ensures), c.turn.ensures.long)
 
 -- p3 of the first position is lent
-pub overflow_add-at : goal.overflow_add-at
-overflow_add-at c =
-    let start = c in
-    omega (arith, start.requires.0.lent 0 4 start.requires.1 (omega arith))
+pub overflow_add-window : goal.overflow_add-window
+overflow_add-window c = omega (arith, c.requires.0.lent 0 4 c.requires.1 (omega arith))
 
-pub load_rows-requires-2 : goal.load_rows-requires-2
-load_rows-requires-2 c =
-    let start = c in
-    let a = start.args in
-    (across_rows a.at a.along a.n 4 8 (a.at + 4) (omega arith) (omega arith) start.requires.0 (omega arith), start.requires.2)
+pub copy_rows_unchecked-requires-else-all : goal.copy_rows_unchecked-requires-else-all
+copy_rows_unchecked-requires-else-all c =
+    let a = c.args in
+    let (run, some) = c.requires in
+    (omega (arith, run.few), table_rows a.at a.along a.n 4 8 (a.at + 4) (omega arith) (omega arith) _ run.few c.told-t, across_rows a.at a.along a.n 4 8 (a.at + 4) (omega arith) (omega arith) run (omega arith))
 
-pub turn_middle-requires : goal.turn_middle-requires
-turn_middle-requires c = c.load_rows-2.ensures.long ∙ c.requires.2
-
-pub returns : goal.returns
-returns c =
-    let rows = c in
-    let start = rows in
-    let a = start.args in
-    rw rows.if-all.false
-    (across_taken a.at a.along a.n 4 8 (a.at + 4) (omega arith) (omega arith) a.samples.now a.t.now _ _ start.requires.0.few rows.load_rows-2.ensures c.turn_middle.ensures, c.turn_middle.ensures.long)
+pub returns-else-all : goal.returns-else-all
+returns-else-all c =
+    let a = c.args in
+    rw c.if-all.false
+    (across_loaded a.at a.along a.n 4 8 (a.at + 4) (omega arith) (omega arith) a.samples.now a.t.now _ c.requires.0 (omega arith) c.told-t (rw c.copy_rows_unchecked-else-all.ensures at c.turn-else-all.ensures), c.turn-else-all.ensures.long)

@@ -1,59 +1,31 @@
-use borrow.Author.Rules.{rules}
-use Prim.Native.Nat.{◌+◌}
-use native.Mathlib.Omega.{arith}
-use Rattle.byte_rows.specs.RowsLaws.{across_rows, across_apart, across_spread}
+use Rattle.std.proofs.Common.{◌+◌, arith}
+use Rattle.byte_rows.specs.RowsLaws.{across_rows, table_rows, across_stored}
 use Rattle.byte_rows.proofs.across.store_across.Goals as goal
 
-pub store_rows-requires : goal.store_rows-requires
-store_rows-requires c =
-    let start = c in
-    let a = start.args in (
-      across_rows a.at a.along a.n 0 16 a.at (omega arith) (omega arith) start.requires.0 (omega arith),
-      across_apart a.at a.along a.n 0 16 a.at (omega arith) (omega arith) start.requires.0,
-    )
+pub copy_rows_unchecked-requires : goal.copy_rows_unchecked-requires
+copy_rows_unchecked-requires c =
+    let a = c.args in
+    let (run, some) = c.requires in
+    (omega (arith, run.few), across_rows a.at a.along a.n 0 16 a.at (omega arith) (omega arith) run (omega arith), table_rows a.at a.along a.n 0 16 a.at (omega arith) (omega arith) _ run.few c.turn.ensures.long)
 
 pub returns-then-all : goal.returns-then-all
 returns-then-all c =
-    let turned = c in
-    let start = turned in
-    let a = start.args in
-    rw turned.if-all.true
-    (across_spread a.at a.along a.n 0 16 a.at (omega arith) (omega arith) a.samples.now a.t.now _ _ start.requires.0.few turned.turn_all.ensures c.store_rows.ensures)
+    let a = c.args in
+    rw (c.if-all.true, c.copy_rows_unchecked.ensures)
+    (across_stored a.at a.along a.n 0 16 a.at (omega arith) (omega arith) a.samples.now a.t.now _ c.requires.0 (omega arith) c.turn.ensures)
 
 -- p3 of the first position is lent
-pub overflow_add-at : goal.overflow_add-at
-overflow_add-at c =
-    let start = c in
-    omega (arith, start.requires.0.lent 0 4 start.requires.1 (omega arith))
+pub overflow_add-window : goal.overflow_add-window
+overflow_add-window c = omega (arith, c.requires.0.lent 0 4 c.requires.1 (omega arith))
 
-pub store_rows-requires-2 : goal.store_rows-requires-2
-store_rows-requires-2 c =
-    let start = c in
-    let a = start.args in (
-      across_rows a.at a.along a.n 4 8 (a.at + 4) (omega arith) (omega arith) start.requires.0 (omega arith),
-      across_apart a.at a.along a.n 4 8 (a.at + 4) (omega arith) (omega arith) start.requires.0,
-    )
+pub copy_rows_unchecked-requires-else-all : goal.copy_rows_unchecked-requires-else-all
+copy_rows_unchecked-requires-else-all c =
+    let a = c.args in
+    let (run, some) = c.requires in
+    (omega (arith, run.few), across_rows a.at a.along a.n 4 8 (a.at + 4) (omega arith) (omega arith) run (omega arith), table_rows a.at a.along a.n 4 8 (a.at + 4) (omega arith) (omega arith) _ run.few c.turn_middle_back.ensures.long)
 
-pub returns : goal.returns
-returns c =
-    let turned = c in
-    let start = turned in
-    let a = start.args in
-    rw turned.if-all.false
-    (across_spread a.at a.along a.n 4 8 (a.at + 4) (omega arith) (omega arith) a.samples.now a.t.now _ _ start.requires.0.few turned.turn_middle_back.ensures c.store_rows-2.ensures)
-
-pub turn_all-requires : goal.turn_all-requires
-turn_all-requires c =
-    search rules
-
-pub shape_of-samples-then-all : goal.shape_of-samples-then-all
-shape_of-samples-then-all c =
-    search rules
-
-pub turn_middle_back-requires : goal.turn_middle_back-requires
-turn_middle_back-requires c =
-    search rules
-
-pub shape_of-samples : goal.shape_of-samples
-shape_of-samples c =
-    search rules
+pub returns-else-all : goal.returns-else-all
+returns-else-all c =
+    let a = c.args in
+    rw (c.if-all.false, c.copy_rows_unchecked-else-all.ensures)
+    (across_stored a.at a.along a.n 4 8 (a.at + 4) (omega arith) (omega arith) a.samples.now a.t.now _ c.requires.0 (omega arith) c.turn_middle_back.ensures)

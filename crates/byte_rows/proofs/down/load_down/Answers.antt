@@ -1,25 +1,26 @@
-use mathlib.Core.Path.{◌∙◌}
-use native.Mathlib.Omega.{arith}
+use Rattle.std.proofs.Common.{◌∙◌, arith}
+use Rattle.lane_runs.specs.RowCopiesLaws.{table_rows, run_rows, rows_loaded}
 use Rattle.lane_runs.specs.SpreadLaws.{spread-taken}
-use Rattle.byte_rows.specs.RowsLaws.{down_rows}
 use Rattle.byte_rows.proofs.down.load_down.Goals as goal
 
-pub load_rows-requires : goal.load_rows-requires
-load_rows-requires c =
-    let (run, some, long) = c.requires in
-    (down_rows run some 0 16 (omega arith), long)
+pub copy_rows_unchecked-requires : goal.copy_rows_unchecked-requires
+copy_rows_unchecked-requires c =
+    let (run, some) = c.requires in
+    (omega arith, table_rows run _ c.told-t 0 16 (omega arith), run_rows run some 0 16 (omega arith))
 
 pub returns-then-all : goal.returns-then-all
 returns-then-all c =
-    let loaded = c.load_rows.ensures in
-    rw c.if-all.true (spread-taken loaded, loaded.long ∙ c.requires.2)
+    let (run, some) = c.requires in
+    let loaded = rows_loaded run some 0 16 (omega arith) _ c.told-t in
+    rw (c.if-all.true, c.copy_rows_unchecked.ensures) (spread-taken loaded, loaded.long ∙ c.told-t)
 
-pub load_rows-requires-2 : goal.load_rows-requires-2
-load_rows-requires-2 c =
-    let (run, some, long) = c.requires in
-    (down_rows run some 4 8 (omega arith), long)
+pub copy_rows_unchecked-requires-else-all : goal.copy_rows_unchecked-requires-else-all
+copy_rows_unchecked-requires-else-all c =
+    let (run, some) = c.requires in
+    (omega arith, table_rows run _ c.told-t 4 8 (omega arith), run_rows run some 4 8 (omega arith))
 
-pub returns : goal.returns
-returns c =
-    let loaded = c.load_rows-2.ensures in
-    rw c.if-all.false (spread-taken loaded, loaded.long ∙ c.requires.2)
+pub returns-else-all : goal.returns-else-all
+returns-else-all c =
+    let (run, some) = c.requires in
+    let loaded = rows_loaded run some 4 8 (omega arith) _ c.told-t in
+    rw (c.if-all.false, c.copy_rows_unchecked-else-all.ensures) (spread-taken loaded, loaded.long ∙ c.told-t)

@@ -1,28 +1,23 @@
-use borrow.Author.Rules.{rules}
-use native.Mathlib.Omega.{arith}
-use Rattle.byte_rows.specs.RowsLaws.{down_rows, down_apart}
+use Rattle.std.proofs.Common.{arith}
+use Rattle.lane_runs.specs.RowCopiesLaws.{table_rows, run_rows, rows_stored}
 use Rattle.byte_rows.proofs.down.store_down.Goals as goal
 
-pub store_rows-requires : goal.store_rows-requires
-store_rows-requires c =
+pub copy_rows_unchecked-requires : goal.copy_rows_unchecked-requires
+copy_rows_unchecked-requires c =
     let (run, some) = c.requires in
-    (down_rows run some 0 16 (omega arith), down_apart run 16 (omega arith))
+    (omega arith, run_rows run some 0 16 (omega arith), table_rows run _ c.told-t 0 16 (omega arith))
 
 pub returns-then-all : goal.returns-then-all
-returns-then-all c = rw c.if-all.true c.store_rows.ensures
-
-pub store_rows-requires-2 : goal.store_rows-requires-2
-store_rows-requires-2 c =
+returns-then-all c =
     let (run, some) = c.requires in
-    (down_rows run some 4 8 (omega arith), down_apart run 12 (omega arith))
+    rw (c.if-all.true, c.copy_rows_unchecked.ensures) (rows_stored run some 0 16 (omega arith) _ c.told-t)
 
-pub returns : goal.returns
-returns c = rw c.if-all.false c.store_rows-2.ensures
+pub copy_rows_unchecked-requires-else-all : goal.copy_rows_unchecked-requires-else-all
+copy_rows_unchecked-requires-else-all c =
+    let (run, some) = c.requires in
+    (omega arith, run_rows run some 4 8 (omega arith), table_rows run _ c.told-t 4 8 (omega arith))
 
-pub shape_of-samples-then-all : goal.shape_of-samples-then-all
-shape_of-samples-then-all c =
-    search rules
-
-pub shape_of-samples : goal.shape_of-samples
-shape_of-samples c =
-    search rules
+pub returns-else-all : goal.returns-else-all
+returns-else-all c =
+    let (run, some) = c.requires in
+    rw (c.if-all.false, c.copy_rows_unchecked-else-all.ensures) (rows_stored run some 4 8 (omega arith) _ c.told-t)

@@ -1,0 +1,94 @@
+// Rows of samples that are copied from one list to another.
+ghost use Rattle.std.specs.Prelude.{◌≡◌, ◌+◌, ◌≤◌, length};
+ghost use Rattle.lane_runs.specs.RowCopies.{row_copied, rows_copied, RowsLent};
+
+// Where rows start: row k at the place at + k * apart.
+#[derive(Clone, Copy)]
+pub struct Places {
+    pub at: usize,
+    pub apart: usize,
+}
+
+fn copy_samples<T: Copy>(to: &mut [T], at: usize, from: &[T], place: usize, n: usize)
+    requires { (at + n ≤ length to.old) × (place + n ≤ length from.now) }
+    ensures { to.new ≡ row_copied from.now place n at to.old }
+{
+    to[at..at + n].copy_from_slice(&from[place..place + n]);
+}
+
+// A row goes through an array of its own, which is known to share no sample with either list, so that it is copied as one vector.
+fn copy_row<T: Copy, const N: usize>(to: &mut [T], at: usize, from: &[T], place: usize)
+    requires { (at + N ≤ length to.old) × (place + N ≤ length from.now) }
+    ensures { to.new ≡ row_copied from.now place N at to.old }
+{
+    let row = <[T; N]>::try_from(&from[place..place + N]).unwrap();
+    to[at..at + N].copy_from_slice(&row);
+}
+
+fn copy_rows_of<T: Copy, const N: usize>(
+    to: &mut [T],
+    into: Places,
+    from: &[T],
+    out_of: Places,
+    lo: usize,
+    m: usize,
+)
+    requires { (lo + m ≤ 16) × RowsLent into.at into.apart N lo m (length to.old) × RowsLent out_of.at out_of.apart N lo m (length from.now) }
+    ensures { to.new ≡ rows_copied from.now out_of.at out_of.apart into.at into.apart N lo m to.old }
+{
+    for k in lo..lo + m {
+        copy_row::<T, N>(
+            to,
+            into.at + k * into.apart,
+            from,
+            out_of.at + k * out_of.apart,
+        );
+    }
+}
+
+// A length that is no constant, which is rare: no array can have it.
+#[inline(never)]
+fn copy_rows_any<T: Copy>(
+    to: &mut [T],
+    into: Places,
+    from: &[T],
+    out_of: Places,
+    n: usize,
+    lo: usize,
+    m: usize,
+)
+    requires { (lo + m ≤ 16) × RowsLent into.at into.apart n lo m (length to.old) × RowsLent out_of.at out_of.apart n lo m (length from.now) }
+    ensures { to.new ≡ rows_copied from.now out_of.at out_of.apart into.at into.apart n lo m to.old }
+{
+    for k in lo..lo + m {
+        copy_samples(
+            to,
+            into.at + k * into.apart,
+            from,
+            out_of.at + k * out_of.apart,
+            n,
+        );
+    }
+}
+
+// Rows of n samples, m of them from the row lo on. The lengths of whole cells are constants, which are copied as vectors.
+pub fn copy_rows_unchecked<T: Copy>(
+    to: &mut [T],
+    into: Places,
+    from: &[T],
+    out_of: Places,
+    n: usize,
+    lo: usize,
+    m: usize,
+)
+    requires { (lo + m ≤ 16) × RowsLent into.at into.apart n lo m (length to.old) × RowsLent out_of.at out_of.apart n lo m (length from.now) }
+    ensures { to.new ≡ rows_copied from.now out_of.at out_of.apart into.at into.apart n lo m to.old }
+{
+    match n {
+        16 => copy_rows_of::<T, 16>(to, into, from, out_of, lo, m),
+        12 => copy_rows_of::<T, 12>(to, into, from, out_of, lo, m),
+        8 => copy_rows_of::<T, 8>(to, into, from, out_of, lo, m),
+        4 => copy_rows_of::<T, 4>(to, into, from, out_of, lo, m),
+        _ => copy_rows_any(to, into, from, out_of, n, lo, m),
+    }
+}
