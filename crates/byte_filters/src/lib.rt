@@ -39,19 +39,22 @@ pub fn byte_four(a: Lane<u8>, key: u8, arm: u8) -> Four<u8>
     ensures { put_taps (samples_of a) 6 (four_of result) ≡ cond (eqb arm 1) (narrow_filter 8 (hev_mask (key % 64 / 16) (samples_of a)) (samples_of a)) (samples_of a) }
 {
     let r = narrow_filter(a, hev_mask(a, key % 64 / 16));
-    if arm == 1 { r } else { a.four() }
+    let on = arm == 1;
+    if on { r } else { a.four() }
 }
 
 pub fn byte_six(a: Lane<u8>, arm: u8) -> Six<u8>
     ensures { put_taps (samples_of a) 5 (six_of result) ≡ cond (eqb arm 2) (wide_filter 3 (samples_of a)) (samples_of a) }
 {
     let r = wide_six(a);
-    if arm == 2 { r } else { a.six() }
+    let on = arm == 2;
+    if on { r } else { a.six() }
 }
 
 pub fn byte_fourteen(a: Lane<u8>, arm: u8) -> Lane<u8>
     ensures { put_taps (samples_of a) 1 (fourteen_of result) ≡ cond (eqb arm 3) (wide_filter 4 (samples_of a)) (samples_of a) }
 {
     let r = wide_fourteen(a);
-    if arm == 3 { r } else { a }
+    let on = arm == 3;
+    if on { r } else { a }
 }
