@@ -3,7 +3,7 @@
 use Rattle.std.specs.Prelude.{◌≡◌, ◌⊎◌, Bool, true, false, List, ℕ, ◌+◌, ◌*◌, ◌/◌, ◌%◌, ◌≤◌, ◌<◌, get_or, replicate}
 use Rattle.std.proofs.Common.{ap, ◌∙◌, inl, inr, zero-add, arith}
 use Rattle.base.specs.Filled.{filled_at}
-use Rattle.decided.specs.KeyRuns.{key_for, Keyed}
+use Rattle.keys.specs.Keyed.{key_for, Keyed}
 use Rattle.geometry.specs.Coordinates.{shr}
 use Rattle.geometry.specs.declared.Pass.{Pass}
 use Rattle.geometry.specs.declared.Superblock.{Superblock}

@@ -1,6 +1,5 @@
 // A chunk of an edge: 16 positions, each by the key of its cell.
 ghost use Rattle.std.specs.Prelude.{◌≡◌, true, ◌+◌, ◌*◌, ◌/◌, ◌≤◌, ◌<◌, length, get_or};
-ghost use Rattle.decided.specs.KeyRuns.{Keyed};
 ghost use Rattle.pass.specs.Chunks.{keyed_run, chunk};
 ghost use Rattle.pass.specs.WorkLaws.{Able};
 ghost use Rattle.pass_edges.specs.PassEdges.{edge_count, edge_len};
@@ -14,7 +13,7 @@ use crate::border::filter_border;
 use crate::chunk_keys::{chunk_filters, chunk_keys};
 use byte_chunks::filter_chunk_unchecked;
 use geometry::{Pass, Superblock};
-use positions::{plane_x_unchecked, plane_y_unchecked};
+use positions::EdgePosition;
 use tap_places::run_start::RunStart;
 use window::WindowShape;
 
@@ -69,23 +68,28 @@ pub(crate) fn filter_chunk(
     pass: Pass,
     sharpness: u8,
     limits: &[u8; 512],
-    outer: &[u8; 64],
-    inner: &[u8; 64],
+    keys: &keys::Keys,
     edge: usize,
     m: usize,
 )
-    requires { Able g s sharpness 8 samples.old × Keyed outer.now inner.now × (edge < edge_count s pass) × (m < edge_len s pass / 16) × Limits limits.now }
-    ensures { samples.new ≡ chunk g s pass sharpness 8 outer.now inner.now edge (16 * m) 16 samples.old }
+    requires { Able g s sharpness 8 samples.old × (edge < edge_count s pass) × (m < edge_len s pass / 16) × Limits limits.now }
+    ensures { samples.new ≡ chunk g s pass sharpness 8 keys.now.outer keys.now.inner edge (16 * m) 16 samples.old }
 {
-    if chunk_filters(outer, inner, s, pass, edge, m) {
-        let keys = chunk_keys(outer, inner, s, pass, edge, m);
-        let x = plane_x_unchecked(s, pass, edge, 16 * m);
-        let y = plane_y_unchecked(s, pass, edge, 16 * m);
+    if chunk_filters(keys, s, pass, edge, m) {
+        let along = chunk_keys(keys, s, pass, edge, m);
+        let first = EdgePosition {
+            s,
+            pass,
+            edge,
+            i: 16 * m,
+        };
+        let x = first.plane_x();
+        let y = first.plane_y();
         let start = RunStart {
             pass,
             x: x.0,
             y: y.0,
         };
-        filter_at(samples, g, start, sharpness, limits, &keys);
+        filter_at(samples, g, start, sharpness, limits, &along);
     }
 }

@@ -1,12 +1,12 @@
 // The keys of a chunk, one for each of its 16 positions.
 ghost use Rattle.std.specs.Prelude.{◌≡◌, not, false, ℕ, ◌+◌, ◌*◌, ◌/◌, ◌%◌, ◌≤◌, ◌<◌, ◌⊎◌, eqb, get_or};
 ghost use Rattle.base.specs.First.{found};
-ghost use Rattle.decided.specs.KeyRuns.{Keyed};
 ghost use Rattle.pass.specs.Chunks.{key_along};
 ghost use Rattle.pass_edges.specs.PassEdges.{edge_count, edge_len};
 ghost use Rattle.byte_pass.specs.ChunkKeys.{spread, ChunkKeys};
 
 use geometry::{Pass, Superblock};
+use keys::Keys;
 use pass_edges::along;
 
 // The keys of cells from the place at on, each for len positions.
@@ -15,10 +15,8 @@ fn spread(keys: &[u8; 64], at: usize, len: usize) -> [u8; 16]
     ensures { result ≡ spread at len keys.now }
 {
     let mut r = [0u8; 16];
-    let mut k: usize = 0;
-    while k < 16 {
+    for k in 0..16 {
         r[k] = keys[at + k / len];
-        k += 1;
     }
     r
 }
@@ -36,23 +34,16 @@ fn edge_keys(keys: &[u8; 64], at: usize, len: usize, m: usize) -> [u8; 16]
 }
 
 // The keys of chunk m of an edge. The outer edges have the even numbers.
-pub(crate) fn chunk_keys(
-    outer: &[u8; 64],
-    inner: &[u8; 64],
-    s: Superblock,
-    pass: Pass,
-    edge: usize,
-    m: usize,
-) -> [u8; 16]
-    requires { Keyed outer.now inner.now × (edge < edge_count s pass) × (m < edge_len s pass / 16) }
-    ensures { ChunkKeys s pass outer.now inner.now edge m result }
+pub(crate) fn chunk_keys(keys: &Keys, s: Superblock, pass: Pass, edge: usize, m: usize) -> [u8; 16]
+    requires { (edge < edge_count s pass) × (m < edge_len s pass / 16) }
+    ensures { ChunkKeys s pass keys.now.outer keys.now.inner edge m result }
 {
     let at = 8 * (edge / 2);
     let len = along(s, pass, 8);
     if edge % 2 == 0 {
-        return edge_keys(outer, at, len, m);
+        return edge_keys(&keys.outer, at, len, m);
     }
-    edge_keys(inner, at, len, m)
+    edge_keys(&keys.inner, at, len, m)
 }
 
 // Whether one of n cells from the place at on filters.
@@ -61,10 +52,8 @@ fn any_filters(keys: &[u8; 64], at: usize, n: usize) -> bool
     ensures { result ≡ found (λ c. not (eqb (get_or keys.now (at + c) 0 % 64) 0)) n }
 {
     let mut any = false;
-    let mut c: usize = 0;
-    while c < n {
+    for c in 0..n {
         any = any | (keys[at + c] % 64 != 0);
-        c += 1;
     }
     any
 }
@@ -81,21 +70,14 @@ fn cells_filter(keys: &[u8; 64], at: usize, len: usize, m: usize) -> bool
 }
 
 // Whether a position of chunk m of an edge is filtered.
-pub(crate) fn chunk_filters(
-    outer: &[u8; 64],
-    inner: &[u8; 64],
-    s: Superblock,
-    pass: Pass,
-    edge: usize,
-    m: usize,
-) -> bool
+pub(crate) fn chunk_filters(keys: &Keys, s: Superblock, pass: Pass, edge: usize, m: usize) -> bool
     requires { (edge < edge_count s pass) × (m < edge_len s pass / 16) }
-    ensures { result ≡ false → (k : ℕ) → k < 16 → key_along s pass outer.now inner.now edge (16 * m + k) % 64 ≡ 0 }
+    ensures { result ≡ false → (k : ℕ) → k < 16 → key_along s pass keys.now.outer keys.now.inner edge (16 * m + k) % 64 ≡ 0 }
 {
     let at = 8 * (edge / 2);
     let len = along(s, pass, 8);
     if edge % 2 == 0 {
-        return cells_filter(outer, at, len, m);
+        return cells_filter(&keys.outer, at, len, m);
     }
-    cells_filter(inner, at, len, m)
+    cells_filter(&keys.inner, at, len, m)
 }

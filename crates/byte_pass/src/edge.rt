@@ -1,6 +1,5 @@
 // The edges of a pass over bytes, chunk by chunk.
 ghost use Rattle.std.specs.Prelude.{◌≡◌, ◌/◌, ◌<◌};
-ghost use Rattle.decided.specs.KeyRuns.{Keyed};
 ghost use Rattle.pass.specs.Chunks.{edge_chunks, pass_chunks};
 ghost use Rattle.pass.specs.WorkLaws.{Able};
 ghost use Rattle.pass_edges.specs.PassEdges.{edge_count, edge_len};
@@ -8,6 +7,7 @@ ghost use Rattle.strength.specs.StrengthLaws.{Limits};
 
 use crate::chunk::filter_chunk;
 use geometry::{Pass, Superblock};
+use keys::Keys;
 use pass_edges::{edge_count, edge_len};
 use strength::limits_table;
 use window::WindowShape;
@@ -19,18 +19,15 @@ fn filter_edge(
     pass: Pass,
     sharpness: u8,
     limits: &[u8; 512],
-    outer: &[u8; 64],
-    inner: &[u8; 64],
+    keys: &Keys,
     edge: usize,
 )
-    requires { Able g s sharpness 8 samples.old × Keyed outer.now inner.now × (edge < edge_count s pass) × Limits limits.now }
-    ensures { samples.new ≡ edge_chunks g s pass sharpness 8 outer.now inner.now edge (edge_len s pass / 16) samples.old }
+    requires { Able g s sharpness 8 samples.old × (edge < edge_count s pass) × Limits limits.now }
+    ensures { samples.new ≡ edge_chunks g s pass sharpness 8 keys.now.outer keys.now.inner edge (edge_len s pass / 16) samples.old }
 {
     let count = edge_len(s, pass) / 16;
     for m in 0..count {
-        filter_chunk(
-            samples, g, s, pass, sharpness, limits, outer, inner, edge, m,
-        );
+        filter_chunk(samples, g, s, pass, sharpness, limits, keys, edge, m);
     }
 }
 
@@ -41,15 +38,14 @@ pub(crate) fn filter_keys(
     s: Superblock,
     pass: Pass,
     sharpness: u8,
-    outer: &[u8; 64],
-    inner: &[u8; 64],
+    keys: &Keys,
 )
-    requires { Able g s sharpness 8 samples.old × Keyed outer.now inner.now }
-    ensures { samples.new ≡ pass_chunks g s pass sharpness 8 outer.now inner.now (edge_count s pass) samples.old }
+    requires { Able g s sharpness 8 samples.old }
+    ensures { samples.new ≡ pass_chunks g s pass sharpness 8 keys.now.outer keys.now.inner (edge_count s pass) samples.old }
 {
     let count = edge_count(s, pass);
     let limits = limits_table();
     for edge in 0..count {
-        filter_edge(samples, g, s, pass, sharpness, &limits, outer, inner, edge);
+        filter_edge(samples, g, s, pass, sharpness, &limits, keys, edge);
     }
 }

@@ -2,14 +2,14 @@
 #![tactic(auto)]
 
 ghost use Rattle.std.specs.Prelude.{◌≡◌, List, ℕ, ◌*◌, ◌/◌, ◌≤◌, length};
+ghost use Rattle.base.specs.Fault.{returned_of, afterwards};
 ghost use Rattle.base.specs.First.{refuse_first};
 ghost use Rattle.base.specs.Outcome.{Outcome, accepted, Answers};
 ghost use Rattle.base.specs.Width.{Byte};
 ghost use Rattle.decided.specs.Decided.{setting};
 ghost use Rattle.decisions.specs.Decision.{levelless};
-ghost use Rattle.faults.specs.Faults.{lists_refused, returned_of};
+ghost use Rattle.faults.specs.Faults.{lists_refused};
 ghost use Rattle.faults.specs.ByteFaults.{byte_lists_refused};
-ghost use Rattle.faults.specs.FaultsLaws.{afterwards};
 ghost use Rattle.geometry.specs.Frame.{cells_from};
 ghost use Rattle.pass.specs.Pass.{superblock_loop_filter, superblock_loop_filter_cells};
 ghost use Rattle.pass.specs.WorkLaws.{Ready};
@@ -22,12 +22,13 @@ mod chunk;
 mod chunk_keys;
 mod edge;
 
-use bad_words::bytes::{any_bad_word_bytes_unchecked, first_bad_word_bytes_unchecked};
+use bad_words::first_bad_word_unchecked;
+use base::fault::Fault;
 use decided::superblock_of;
 use edge::filter_keys;
-use faults::{PassAnswer, number_faults};
+use faults::number_faults;
 use geometry::{Pass, Superblock, cell_count_unchecked};
-use keys::{first_levelless_bytes_unchecked, keys_bytes_unchecked, keys_unchecked};
+use keys::keys_unchecked;
 use pass_edges::pass_of;
 use window::{WindowShape, bad_window};
 
@@ -45,9 +46,7 @@ pub fn superblock_loop_filter_bytes_unchecked(
     ensures { samples.new ≡ superblock_loop_filter g (setting s chroma sharpness 8 cells.now) pass samples.old }
 {
     let keys = keys_unchecked(cells, s, pass, chroma);
-    let outer = keys.outer;
-    let inner = keys.inner;
-    filter_keys(samples, g, s, pass, sharpness, &outer, &inner);
+    filter_keys(samples, g, s, pass, sharpness, &keys);
 }
 
 // All but the levels is tested. The keys tell whether one lacks, and are what the work goes by.
@@ -59,33 +58,31 @@ fn test_levels_and_filter(
     pass: Pass,
     chroma: bool,
     sharpness: u8,
-) -> PassAnswer
+) -> Result<(), Fault>
     requires { Ready g (setting s chroma sharpness 8 (words_of cells.now)) samples.old }
     ensures { Answers (refuse_first (levelless s pass chroma (words_of cells.now)) (64 * edge_count s pass) 14 (accepted (superblock_loop_filter g (setting s chroma sharpness 8 (words_of cells.now)) pass samples.old))) (returned_of result) samples.old samples.new }
 {
-    let keys = keys_bytes_unchecked(cells, s, pass, chroma);
-    if keys.lacking {
-        return PassAnswer::Level(first_levelless_bytes_unchecked(cells, s, pass, chroma));
+    let keys = keys_unchecked(cells, s, pass, chroma);
+    if let Some(place) = keys.lacking {
+        return Err(Fault::NoLevel(place));
     }
-    let outer = keys.outer;
-    let inner = keys.inner;
-    filter_keys(samples, g, s, pass, sharpness, &outer, &inner);
-    PassAnswer::Done
+    filter_keys(samples, g, s, pass, sharpness, &keys);
+    Ok(())
 }
 
 // Refusals 11 and 12, once the numbers are tested. A byte is in range, so 13 is not looked for.
-fn list_faults(lent: usize, g: WindowShape, cells: &[u8], s: Superblock) -> PassAnswer
+fn list_faults(lent: usize, g: WindowShape, cells: &[u8], s: Superblock) -> Result<(), Fault>
     requires { Placed s × (cells_from s.row s.cols s.rows ≤ length cells.now / 4) }
     ensures { (after : Outcome (List ℕ)) → byte_lists_refused g s (words_of cells.now) lent after ≡ afterwards result after }
 {
     let count = cell_count_unchecked(s.row, s.cols, s.rows);
-    if any_bad_word_bytes_unchecked(cells, count) {
-        return PassAnswer::Cell(first_bad_word_bytes_unchecked(cells, count));
+    if let Some(k) = first_bad_word_unchecked(cells, count) {
+        return Err(Fault::Cell(k));
     }
     if bad_window(g, lent) {
-        return PassAnswer::Window;
+        return Err(Fault::Window);
     }
-    PassAnswer::Done
+    Ok(())
 }
 
 // The numbers are tested: now the lists, and then the work.
@@ -97,15 +94,12 @@ fn test_lists_and_filter(
     pass: Pass,
     chroma: bool,
     sharpness: u8,
-) -> PassAnswer
+) -> Result<(), Fault>
     requires { Placed s × (cells_from s.row s.cols s.rows ≤ length cells.now / 4) × (sharpness ≤ 7) }
     ensures { Answers (lists_refused g (setting s chroma sharpness 8 (words_of cells.now)) pass samples.old (accepted (superblock_loop_filter g (setting s chroma sharpness 8 (words_of cells.now)) pass samples.old))) (returned_of result) samples.old samples.new }
 {
-    let faults = list_faults(samples.len(), g, cells, s);
-    if let PassAnswer::Done = faults {
-        return test_levels_and_filter(samples, g, cells, s, pass, chroma, sharpness);
-    }
-    faults
+    list_faults(samples.len(), g, cells, s)?;
+    test_levels_and_filter(samples, g, cells, s, pass, chroma, sharpness)
 }
 
 // Takes any samples, any numbers, and cells whose words arrive as bytes, four to a cell, the most significant first. A refusal leaves
@@ -124,10 +118,10 @@ pub fn superblock_loop_filter_bytes(
     col: usize,
     plane: u8,
     pass: u8,
-) -> PassAnswer
+) -> Result<(), Fault>
     ensures { Answers (superblock_loop_filter_cells Byte g sharpness depth sub_x sub_y mi_cols mi_rows row col plane pass (words_of cells.now) samples.old) (returned_of result) samples.old samples.new }
 {
-    let faults = number_faults(
+    number_faults(
         sharpness,
         depth == 8,
         sub_x,
@@ -139,10 +133,7 @@ pub fn superblock_loop_filter_bytes(
         plane,
         pass,
         cells.len() / 4,
-    );
-    if let PassAnswer::Done = faults {
-        let s = superblock_of(sub_x, sub_y, mi_cols, mi_rows, row, col, plane);
-        return test_lists_and_filter(samples, g, cells, s, pass_of(pass), 0 < plane, sharpness);
-    }
-    faults
+    )?;
+    let s = superblock_of(sub_x, sub_y, mi_cols, mi_rows, row, col, plane);
+    test_lists_and_filter(samples, g, cells, s, pass_of(pass), 0 < plane, sharpness)
 }

@@ -1,50 +1,40 @@
-use mathlib.Core.Path.{◌≡◌, refl, ◌∙◌}
-use mathlib.Core.List.{List, []}
-use Prim.Native.Nat.{ℕ}
-use native.Mathlib.Omega.{arith}
-use lib.ListN.{length}
-use Rattle.base.specs.Outcome.{Outcome, accepted}
+use Rattle.std.proofs.Common.{◌≡◌, refl, ◌∙◌, List, [], ℕ, length, get_or, Fits, w8, arith}
+use Rattle.std.proofs.lemmas.Result.{err_from_is_err_and}
 use Rattle.base.specs.Depth.{supported}
+use Rattle.base.specs.Fault.{number_of, place_of}
+use Rattle.base.specs.Outcome.{Outcome, accepted, refused}
 use Rattle.base.specs.Width.{Byte, Ranged}
 use Rattle.faults.specs.ByteFaults.{bytes_range, byte_lists}
-use Rattle.faults.specs.FaultsLaws.{lent_refused, afterwards, lent_passed}
-use Rattle.pass.proofs.Refusals.{refused_answer, passed_on, answers_on}
+use Rattle.faults.specs.FaultsLaws.{lent_refused, lent_passed}
+use Rattle.pass.proofs.Refusals.{answers_on}
 use Rattle.word_bytes.specs.WordBytes.{words_of}
 use Rattle.word_bytes.specs.WordBytesLaws.{words_of-length}
 use Rattle.byte_pass.proofs.test_lists_and_filter.Goals as goal
-use Rattle.byte_pass.proofs.test_lists_and_filter.Tie as tie
-use Rattle.byte_pass.proofs.test_lists_and_filter.Lts as lts
-use Rattle.byte_pass.proofs.test_lists_and_filter.Reads as reads
-
-abbrev at-After-list_faults : Type 0
-at-After-list_faults = lts.After-list_faults tie.the-claims reads.Pre reads.Post
 
 -- every lent sample is a byte
-ranged : (c : at-After-list_faults) → Ranged Byte c.args.samples.now
-ranged c = record { below = λ k. omega (arith, c.slice_known-1.given k) }
+ranged : (samples : List ℕ) → ((k : ℕ) → Fits w8 (get_or samples k 0)) → Ranged Byte samples
+ranged samples bytes = record { below = λ k. omega (arith, bytes k) }
 
--- what the tests of the lists answer
-tested : (c : at-After-list_faults) → let a = c.args in
-    (after : Outcome (List ℕ)) → lent_refused a.g a.s 8 (words_of a.cells.now) a.samples.now after ≡ afterwards c.list_faults-faults.result after
-tested c after =
+pub returns-in_err-list_faults : goal.returns-in_err-list_faults
+returns-in_err-list_faults c =
     let a = c.args in
-    byte_lists a.g 8 a.samples.now refl (ranged c) a.s (words_of a.cells.now) after ∙ c.list_faults-faults.ensures after
+    let fault = c.in_err-list_faults.field-0.0 in
+    let tested : (after : Outcome (List ℕ)) → lent_refused a.g a.s 8 (words_of a.cells.now) a.samples.now after ≡ refused (number_of fault) (place_of fault) =
+    λ after. byte_lists a.g 8 a.samples.now refl (ranged a.samples.now c.type_inv.samples) a.s (words_of a.cells.now) after ∙ c.in_err-list_faults.ensures after in
+    let e = err_from_is_err_and c.from_residual.result c.from_residual.ensures.1 in
+    rw (tested _, e.1, e.2) (refl, refl)
 
 pub test_levels_and_filter-requires : goal.test_levels_and_filter-requires
 unfolding supported
 test_levels_and_filter-requires c =
-    let f = c in
-    let start = f in
-    let a = start.args in
-    let p = start.requires in
-    let l = lent_passed a.g a.s 8 (words_of a.cells.now) a.samples.now _ (passed_on f.list_faults-faults.result _ _ c.in-Done.is (tested f.before.before.before (accepted []))) in
-    record { window = l.1; range = bytes_range a.g 8 a.samples.now refl (ranged f.before.before.before); placed = p.0; cells = rw (words_of-length a.cells.now) p.1; sharpness = p.2; depth = refl }
-
-pub returns-in-Done : goal.returns-in-Done
-returns-in-Done c =
-    let told = c in
-    let f = told in
-    answers_on _ _ _ _ _ (passed_on f.list_faults-faults.result _ _ told.in-Done.is (tested f.before.before.before.before.before.before _)) c.test_levels_and_filter.ensures
+    let a = c.args in
+    let p = c.requires in
+    let r = ranged a.samples.now c.slice_known-1.given in
+    let l = lent_passed a.g a.s 8 (words_of a.cells.now) a.samples.now _ (byte_lists a.g 8 a.samples.now refl r a.s (words_of a.cells.now) (accepted []) ∙ c.in_ok-list_faults.ensures (accepted [])) in
+    record { window = l.1; range = bytes_range a.g 8 a.samples.now refl r; placed = p.0; cells = rw (words_of-length a.cells.now) p.1; sharpness = p.2; depth = refl }
 
 pub returns : goal.returns
-returns c = refused_answer c.list_faults-faults.result c.in_default.not-Done _ _ _ (tested c.before.before _)
+returns c =
+    let a = c.args in
+    let r = ranged a.samples.now c.slice_known-1.given in
+    answers_on _ _ _ _ _ (byte_lists a.g 8 a.samples.now refl r a.s (words_of a.cells.now) _ ∙ c.in_ok-list_faults.ensures _) c.test_levels_and_filter.ensures

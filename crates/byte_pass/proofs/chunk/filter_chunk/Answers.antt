@@ -16,7 +16,7 @@ at-Start = lts.Start tie.the-claims reads.Pre reads.Post
 -- the chunk is in the grid
 grid : (c : at-Start) → Placed c.args.s × (c.args.edge < 16) × (16 * c.args.m < 64)
 grid c =
-    (c.requires.0.placed, omega (arith, c.requires.2, edge_count_small c.args.s c.args.pass), omega (arith, c.requires.3, edge_len_small c.args.s c.args.pass))
+    (c.requires.0.placed, omega (arith, c.requires.1, edge_count_small c.args.s c.args.pass), omega (arith, c.requires.2, edge_len_small c.args.s c.args.pass))
 
 pub returns-then-chunk_filters : goal.returns-then-chunk_filters
 returns-then-chunk_filters c =
@@ -24,34 +24,18 @@ returns-then-chunk_filters c =
     let made = at_y in
     let a = made.args in
     c.filter_at.ensures
-    ∙ chunk-along a.g a.s a.pass a.sharpness 8 a.outer.now a.inner.now a.edge (16 * a.m) _ _ 16 (λ j. get_or made.chunk_keys-keys.result j 0) a.samples.now
-    at_y.plane_x_unchecked-x.ensures.0 at_y.plane_y_unchecked-y.ensures.0 made.chunk_keys-keys.ensures.are
+    ∙ chunk-along a.g a.s a.pass a.sharpness 8 a.keys.now.outer a.keys.now.inner a.edge (16 * a.m) _ _ 16 (λ j. get_or made.chunk_keys-along.result j 0) a.samples.now
+    at_y.plane_x-x.ensures.0 at_y.plane_y-y.ensures.0 made.chunk_keys-along.ensures.are
 
 pub returns-else-chunk_filters : goal.returns-else-chunk_filters
 returns-else-chunk_filters c =
     let a = c.args in
-    sym (chunk_idle a.g a.s a.pass a.sharpness 8 a.outer.now a.inner.now a.edge (16 * a.m) 16 a.samples.now (c.chunk_filters.ensures c.if-chunk_filters.false))
+    sym (chunk_idle a.g a.s a.pass a.sharpness 8 a.keys.now.outer a.keys.now.inner a.edge (16 * a.m) 16 a.samples.now (c.chunk_filters.ensures c.if-chunk_filters.false))
 
 pub chunk_filters-requires : goal.chunk_filters-requires
 chunk_filters-requires c =
-    (c.requires.2, c.requires.3)
+    (c.requires.1, c.requires.2)
 
-pub chunk_keys-keys-requires : goal.chunk_keys-keys-requires
-chunk_keys-keys-requires c =
-    let p = c.requires in (p.1, p.2, p.3)
-
-pub overflow_mul-m : goal.overflow_mul-m
-overflow_mul-m c =
-    omega (arith, (grid c.before.before.before.before.before).2)
-
-pub plane_x_unchecked-x-requires : goal.plane_x_unchecked-x-requires
-plane_x_unchecked-x-requires c =
-    grid c.before.before.before.before.before
-
-pub overflow_mul-m-then-chunk_filters : goal.overflow_mul-m-then-chunk_filters
-overflow_mul-m-then-chunk_filters c =
-    omega (arith, (grid c.before.before.before.before.before.before).2)
-
-pub plane_y_unchecked-y-requires : goal.plane_y_unchecked-y-requires
-plane_y_unchecked-y-requires c =
-    grid c.before.before.before.before.before.before
+pub chunk_keys-along-requires : goal.chunk_keys-along-requires
+chunk_keys-along-requires c =
+    let p = c.requires in (p.1, p.2)

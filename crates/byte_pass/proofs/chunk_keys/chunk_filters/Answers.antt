@@ -18,13 +18,13 @@ cells_filter_requires c = rw c.along-len.ensures.0 (asked c.args.s c.args.pass _
 pub returns-then-edge-eq0 : goal.returns-then-edge-eq0
 returns-then-edge-eq0 c = λ off k h.
     let a = c.args in
-    ap (λ (x : ℕ). x % 64) (sym (outer_along a.s a.pass a.outer.now a.inner.now a.edge (16 * a.m + k) c.if-edge-eq0.true))
+    ap (λ (x : ℕ). x % 64) (sym (outer_along a.s a.pass a.keys.now.outer a.keys.now.inner a.edge (16 * a.m + k) c.if-edge-eq0.true))
     ∙ (rw c.along-len.ensures.0 at (c.cells_filter.ensures off k h))
 
 pub returns : goal.returns
 returns c = λ off k h.
     let a = c.args in
-    ap (λ (x : ℕ). x % 64) (sym (inner_along a.s a.pass a.outer.now a.inner.now a.edge (16 * a.m + k) (omega (arith, c.if-edge-eq0.false))))
+    ap (λ (x : ℕ). x % 64) (sym (inner_along a.s a.pass a.keys.now.outer a.keys.now.inner a.edge (16 * a.m + k) (omega (arith, c.if-edge-eq0.false))))
     ∙ (rw c.along-len.ensures.0 at (c.cells_filter-2.ensures off k h))
 
 pub overflow_mul-at : goal.overflow_mul-at

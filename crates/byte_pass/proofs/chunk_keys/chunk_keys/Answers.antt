@@ -16,23 +16,23 @@ abbrev at-After-along : Type 0
 at-After-along = lts.After-along tie.the-claims reads.Pre reads.Post
 
 few : (c : at-Start) → c.args.edge < 16
-few c = omega (arith, c.requires.1, edge_count_small c.args.s c.args.pass)
+few c = omega (arith, c.requires.0, edge_count_small c.args.s c.args.pass)
 
 edge_keys_requires : (c : at-After-along) → let a = c.args in (8 * (a.edge / 2) + 8 ≤ 64) × ((c.along-len.result ≡ 8) ⊎ (c.along-len.result ≡ 4)) × (16 * a.m < 8 * c.along-len.result)
-edge_keys_requires c = rw c.along-len.ensures.0 (asked c.args.s c.args.pass _ _ c.requires.1 c.requires.2)
+edge_keys_requires c = rw c.along-len.ensures.0 (asked c.args.s c.args.pass _ _ c.requires.0 c.requires.1)
 
 pub returns-then-edge-eq0 : goal.returns-then-edge-eq0
 returns-then-edge-eq0 c =
     let start = c in
     let a = start.args in
-    outer_keys a.s a.pass a.outer.now a.inner.now a.edge a.m start.requires.0 (few start.before.before.before) start.requires.2 _ c.if-edge-eq0.true
+    outer_keys a.s a.pass a.keys.now.outer a.keys.now.inner a.edge a.m a.keys.now.keyed (few start.before.before.before) start.requires.1 _ c.if-edge-eq0.true
     (rw c.along-len.ensures.0 at c.edge_keys.ensures)
 
 pub returns : goal.returns
 returns c =
     let start = c in
     let a = start.args in
-    inner_keys a.s a.pass a.outer.now a.inner.now a.edge a.m start.requires.0 (few start.before.before.before) start.requires.2 _ (omega (arith, c.if-edge-eq0.false))
+    inner_keys a.s a.pass a.keys.now.outer a.keys.now.inner a.edge a.m a.keys.now.keyed (few start.before.before.before) start.requires.1 _ (omega (arith, c.if-edge-eq0.false))
     (rw c.along-len.ensures.0 at c.edge_keys-2.ensures)
 
 pub overflow_mul-at : goal.overflow_mul-at
