@@ -2,13 +2,16 @@
 #![tactic(auto)]
 
 ghost use Rattle.std.specs.Prelude.{◌≡◌};
+ghost use Rattle.base.specs.Fault.{number_of, place_of, returned_of};
 ghost use Rattle.c_border.specs.Border.{numbers_of, crossing};
+
+use base::fault::Fault;
 
 // What a call answers: number and place 0 where it was accepted, else the number of the refusal and its place, which is
 // 0 where the number names none. Of several refusals the lowest number is given, with its smallest place. A refused
 // call writes nothing.
 #[repr(C)]
-#[derive(Clone, Copy)]
+#[derive(Clone, Copy, Debug, PartialEq, Eq)]
 pub struct Refusal {
     // 0, or the number of the refusal.
     pub number: u32,
@@ -16,12 +19,27 @@ pub struct Refusal {
     pub place: u32,
 }
 
-// Number and place as they cross, the place in 32 bits.
-pub fn crossed(number: u32, place: usize) -> Refusal
-    ensures { numbers_of result ≡ crossing (record { number = number; place = place }) }
+// The place crosses in 32 bits.
+impl From<Fault> for Refusal {
+    ghost from_gives = { λ fault refusal. numbers_of refusal ≡ crossing (record { number = number_of fault; place = place_of fault }) };
+
+    fn from(fault: Fault) -> Refusal {
+        Refusal {
+            number: fault.number(),
+            place: (fault.place() % 4294967296) as u32,
+        }
+    }
+}
+
+// An answer as it crosses the border.
+pub fn refusal_of<A: Copy>(answer: Result<A, Fault>) -> Refusal
+    ensures { numbers_of result ≡ crossing (returned_of answer) }
 {
-    Refusal {
-        number,
-        place: (place % 4294967296) as u32,
+    match answer {
+        Ok(_) => Refusal {
+            number: 0,
+            place: 0,
+        },
+        Err(fault) => Refusal::from(fault),
     }
 }
