@@ -4,19 +4,7 @@ use native.Mathlib.Omega.{arith}
 use lib.ListN.{get_or}
 use Rattle.pass.specs.ChunkLaws.{chunk-along, chunk_idle}
 use Rattle.pass_edges.specs.PassEdgesLaws.{edge_count_small, edge_len_small}
-use Rattle.positions.specs.Positions.{Placed}
 use Rattle.byte_pass.proofs.chunk.filter_chunk.Goals as goal
-use Rattle.byte_pass.proofs.chunk.filter_chunk.Tie as tie
-use Rattle.byte_pass.proofs.chunk.filter_chunk.Lts as lts
-use Rattle.byte_pass.proofs.chunk.filter_chunk.Reads as reads
-
-abbrev at-Start : Type 0
-at-Start = lts.Start tie.the-claims reads.Pre reads.Post
-
--- the chunk is in the grid
-grid : (c : at-Start) → Placed c.args.s × (c.args.edge < 16) × (16 * c.args.m < 64)
-grid c =
-    (c.requires.0.placed, omega (arith, c.requires.1, edge_count_small c.args.s c.args.pass), omega (arith, c.requires.2, edge_len_small c.args.s c.args.pass))
 
 pub returns-then-chunk_filters : goal.returns-then-chunk_filters
 returns-then-chunk_filters c =
@@ -39,3 +27,17 @@ chunk_filters-requires c =
 pub chunk_keys-along-requires : goal.chunk_keys-along-requires
 chunk_keys-along-requires c =
     let p = c.requires in (p.1, p.2)
+
+pub overflow_mul-first : goal.overflow_mul-first
+overflow_mul-first c = omega (arith, edge_len_small c.args.s c.args.pass)
+
+-- the chunk is in the grid
+pub invariant_of-first : goal.invariant_of-first
+invariant_of-first c =
+    let a = c.args in
+    let p = c.requires in
+    record {
+      placed = p.0.placed;
+      edge_small = omega (arith, p.1, edge_count_small a.s a.pass);
+      i_small = omega (arith, p.2, edge_len_small a.s a.pass);
+    }
