@@ -1,3 +1,4 @@
 pub mod Row
 pub mod RowLaws
 pub mod RowStandard
+pub mod RowLists

@@ -1,20 +1,18 @@
 -- Document 01's row: the packed cells of a superblock row, from the mode info of its cells and the level table, with refusals.
 -- Assumes nothing.
-use Rattle.std.specs.Prelude.{Bool, true, false, not, ◌&&◌, ◌||◌, List, ℕ, eqb, ltb, ℤ, pos, length, get_or}
+use Rattle.std.specs.Prelude.{Bool, true, false, not, ◌&&◌, ◌||◌, List, ℕ, eqb, ltb, ℤ, pos, length, get_or, is_some, unwrap_or}
 use Rattle.base.specs.Depth.{supported}
 use Rattle.base.specs.Filled.{filled}
 use Rattle.base.specs.First.{refuse_first}
-use Rattle.base.specs.Outcome.{Outcome, accepted, refuse, Returned}
+use Rattle.base.specs.Outcome.{Outcome, accepted, refuse}
 use Rattle.blocks.specs.BlockSizes.{mi_width_log2, mi_height_log2}
 use Rattle.chroma_transforms.specs.ChromaTransforms.{uv_tx_size}
 use Rattle.blocks.specs.ModeInfo.{bad_block, sb_size, is_intra}
 use Rattle.geometry.specs.Frame.{bad_subsampling, bad_frame_size, bad_start, cells_from}
-use Rattle.level_lookup.specs.LevelLookup.{lookup_of, is_found, found_level}
+use Rattle.level_lookup.specs.LevelLookup.{lookup_of}
 use Rattle.strength.specs.Strength.{mode_type}
 use Rattle.cells.specs.Cell.{packed}
 use Rattle.cells.specs.declared.LfCell.{LfCell}
-use Rattle.row.specs.declared.RowAnswer.{RowAnswer}
-use Rattle.row.specs.declared.RowAnswer.TheVariants.{Done, Sharpness, Depth, Subsampling, FrameSize, Base, Level, Short, Block}
 
 -- ---- one cell
 
@@ -30,8 +28,8 @@ cell_from levels mi_size tx_size uv_tx skip ref_frame y_mode segment =
       tx = tx_size;
       uvtx = uv_tx;
       skipped = eqb skip 1 && not (is_intra ref_frame);
-      present = is_found lvl;
-      level = found_level lvl;
+      present = is_some lvl;
+      level = unwrap_or lvl 0;
     }
 
 -- ---- the row
@@ -61,9 +59,12 @@ abbrev pub bad_level : (levels : List ℕ) (k : ℕ) → Bool
 bad_level levels k = ltb 63 (get_or levels k 0)
 
 -- 7: a list with fewer than n entries
+unfoldable pub lists_short : ModeInfo → (n : ℕ) → Bool
+lists_short m n =
+    ltb (length m.sizes) n || ltb (length m.txs) n || ltb (length m.skips) n || ltb (length m.refs) n || ltb (length m.modes) n || ltb (length m.segments) n
+
 unfoldable pub too_short : ModeInfo → (cells : List ℕ) (n : ℕ) → Bool
-too_short m cells n =
-    ltb (length m.sizes) n || ltb (length m.txs) n || ltb (length m.skips) n || ltb (length m.refs) n || ltb (length m.modes) n || ltb (length m.segments) n || ltb (length cells) n
+too_short m cells n = lists_short m n || ltb (length cells) n
 
 -- 8: a cell's size, transform or skip
 abbrev pub bad_block_at : (sizes txs skips : List ℕ) (k : ℕ) → Bool
@@ -85,15 +86,3 @@ row m levels sharpness depth sub_x sub_y mi_cols mi_rows base cells =
     (refuse (too_short m cells n) 7 0
     (refuse_first (bad_at m) n 8
     (accepted (filled (word_at m levels (eqb sub_x 1) (eqb sub_y 1)) 0 n cells)))))))))
-
--- document 01's number and place for each answer
-abbrev pub returned_of : RowAnswer → Returned
-returned_of Done = record { number = 0; place = 0 }
-returned_of Sharpness = record { number = 1; place = 0 }
-returned_of Depth = record { number = 2; place = 0 }
-returned_of Subsampling = record { number = 3; place = 0 }
-returned_of FrameSize = record { number = 4; place = 0 }
-returned_of Base = record { number = 5; place = 0 }
-returned_of (Level k) = record { number = 6; place = k }
-returned_of Short = record { number = 7; place = 0 }
-returned_of (Block k) = record { number = 8; place = k }

@@ -16,7 +16,7 @@ use Rattle.geometry.specs.FrameLaws.{sized, cells_small}
 use Rattle.level_lookup.specs.LevelLookupLaws.{lookup_small}
 use Rattle.strength.specs.Strength.{mode_type}
 use Rattle.cells.specs.Cell.{Fields}
-use Rattle.row.specs.Row.{cell_from, ModeInfo, word_at, bad_level, too_short, bad_at, row}
+use Rattle.row.specs.Row.{cell_from, ModeInfo, word_at, bad_level, lists_short, too_short, bad_at, row}
 
 -- ---- what the tests leave
 
@@ -48,7 +48,7 @@ pub record Long (m : ModeInfo) (words : List ℕ) (n : ℕ) : Type 0 where
   pub cells : n ≤ length words
 
 pub long : (m : ModeInfo) (words : List ℕ) (n : ℕ) → too_short m words n ≡ false → Long m words n
-unfolding too_short
+unfolding too_short lists_short
 long m words n e =
     let short : List ℕ → Bool = λ l. ltb (length l) n in
     let refs : Bool = ltb (length m.refs) n in
@@ -67,6 +67,25 @@ long m words n e =
       segments = ltb-false _ n s5.1;
       cells = ltb-false _ n s6.1;
     }
+
+-- each list has an entry k
+pub record Holds (m : ModeInfo) (k : ℕ) : Type 0 where
+  pub sizes : k < length m.sizes
+  pub txs : k < length m.txs
+  pub skips : k < length m.skips
+  pub refs : k < length m.refs
+  pub modes : k < length m.modes
+  pub segments : k < length m.segments
+
+pub holds : (m : ModeInfo) (words : List ℕ) (n k : ℕ) → Long m words n → k < n → Holds m k
+holds m words n k l h =
+    let sizes = l.sizes in
+    let txs = l.txs in
+    let skips = l.skips in
+    let refs = l.refs in
+    let modes = l.modes in
+    let segments = l.segments in
+    record { sizes = omega arith; txs = omega arith; skips = omega arith; refs = omega arith; modes = omega arith; segments = omega arith }
 
 -- ---- the cases of the row, in the order of its tests
 

@@ -2,99 +2,86 @@
 ghost use Rattle.std.specs.Prelude.{◌≡◌, false, ◌≤◌, min, get_or};
 ghost use Rattle.base.specs.First.{found};
 ghost use Rattle.blocks.specs.BlockSizes.{by_size, mi_width_log2, mi_height_log2};
-ghost use Rattle.level_lookup.specs.LevelLookup.{is_found, found_level};
+ghost use Rattle.chroma_transforms.specs.ChromaTransforms.{uv_limit};
 ghost use Rattle.cells.specs.Cell.{packed};
 ghost use Rattle.row.specs.Row.{cell_from, bad_level};
 
+use crate::mode_info::CellMi;
 use blocks::mode_info::{is_intra, sb_size};
+use blocks::partition::{mi_height_log2_table, mi_width_log2_table};
 use cells::{LfCell, pack_unchecked};
-use level_lookup::{Lookup, find_level};
+use chroma_transforms::uv_limit_table;
+use level_lookup::find_level;
 use strength::mode_to_mode_type;
 
-fn is_found(lvl: Lookup) -> bool
-    ensures { result ≡ is_found lvl }
-{
-    match lvl {
-        Lookup::Found(_) => true,
-        Lookup::Nothing => false,
+// What the words of a row are looked up in: its levels, the logarithms of the block sizes, and the largest transform of
+// each size in planes 1 and 2.
+#[derive(Clone, Copy)]
+pub(crate) struct WordTables<'a> {
+    levels: &'a [u8; 64],
+    widths: [u8; 13],
+    heights: [u8; 13],
+    limits: [u8; 13],
+    ghost tested: { found (bad_level levels.now) 64 ≡ false },
+    ghost wide: { widths ≡ by_size mi_width_log2 },
+    ghost high: { heights ≡ by_size mi_height_log2 },
+}
+
+impl<'a> WordTables<'a> {
+    pub(crate) fn new_unchecked(levels: &'a [u8; 64], subx: bool, suby: bool) -> WordTables<'a>
+        requires { found (bad_level levels.now) 64 ≡ false }
+        ensures { (result.levels.now ≡ levels.now) × (result.limits ≡ by_size (uv_limit subx suby)) }
+    {
+        WordTables {
+            levels,
+            widths: mi_width_log2_table(),
+            heights: mi_height_log2_table(),
+            limits: uv_limit_table(subx, suby),
+        }
     }
-}
 
-fn found_level(lvl: Lookup) -> u8
-    ensures { result ≡ found_level lvl }
-{
-    match lvl {
-        Lookup::Found(level) => level,
-        Lookup::Nothing => 0,
+    // get_uv_tx_size( ), by the limits of the frame's subsampling.
+    fn uv_tx_unchecked(&self, mi: CellMi) -> u8
+        requires { mi.mi_size ≤ 12 }
+        ensures { result ≡ min mi.tx_size (get_or self.now.limits mi.mi_size 0) }
+    {
+        mi.tx_size.min(self.limits[usize::from(mi.mi_size)])
     }
-}
 
-// get_uv_tx_size( ), by the limits of the frame's subsampling.
-fn uv_tx_unchecked(limits: &[u8; 13], tx_size: u8, mi_size: u8) -> u8
-    requires { mi_size ≤ 12 }
-    ensures { result ≡ min tx_size (get_or limits.now mi_size 0) }
-{
-    let at = mi_size as usize;
-    let limit = limits[at];
-    if tx_size < limit { tx_size } else { limit }
-}
-
-// What the pass reads of a cell whose size was tested; widths and heights are the tables of logarithms.
-fn cell_unchecked(
-    levels: &[u8; 64],
-    widths: &[u8; 13],
-    heights: &[u8; 13],
-    mi_size: u8,
-    tx_size: u8,
-    uv_tx: u8,
-    skip: u8,
-    ref_frame: i32,
-    y_mode: u8,
-    segment_id: u8,
-) -> LfCell
-    requires { (mi_size ≤ 12) × (widths.now ≡ by_size mi_width_log2) × (heights.now ≡ by_size mi_height_log2) }
-    ensures { result ≡ cell_from levels.now mi_size tx_size uv_tx skip ref_frame y_mode segment_id }
-{
-    let size = mi_size as usize;
-    let raised = sb_size(true, mi_size) as usize;
-    let lvl = find_level(
-        levels,
-        segment_id as usize,
-        ref_frame,
-        mode_to_mode_type(y_mode),
-    );
-    LfCell {
-        width0: widths[size],
-        width1: widths[raised],
-        height0: heights[size],
-        height1: heights[raised],
-        tx: tx_size,
-        uvtx: uv_tx,
-        skipped: (skip == 1) & !is_intra(ref_frame),
-        present: is_found(lvl),
-        level: found_level(lvl),
+    // What the pass reads of a cell whose size was tested.
+    #[tactic(auto, unfolding(crate::specs::Row::cell_from, blocks::specs::ModeInfo::sb_size), using(blocks::specs::BlockSizesLaws::by_size_lem))]
+    fn cell_unchecked(&self, mi: CellMi) -> LfCell
+        requires { mi.mi_size ≤ 12 }
+        ensures { result ≡ cell_from self.now.levels.now mi.mi_size mi.tx_size (min mi.tx_size (get_or self.now.limits mi.mi_size 0)) mi.skip mi.ref_frame mi.y_mode mi.segment_id }
+    {
+        let size = usize::from(mi.mi_size);
+        let raised = usize::from(sb_size(true, mi.mi_size));
+        let mode_type = mode_to_mode_type(mi.y_mode);
+        let lvl = find_level(
+            self.levels,
+            usize::from(mi.segment_id),
+            mi.ref_frame,
+            mode_type,
+        );
+        LfCell {
+            width0: self.widths[size],
+            width1: self.widths[raised],
+            height0: self.heights[size],
+            height1: self.heights[raised],
+            tx: mi.tx_size,
+            uvtx: self.uv_tx_unchecked(mi),
+            skipped: (mi.skip == 1) & !is_intra(mi.ref_frame),
+            present: lvl.is_some(),
+            level: lvl.unwrap_or(0),
+        }
     }
-}
 
-// The word of a cell whose size and transform were tested, and of levels that were.
-pub(crate) fn word_unchecked(
-    levels: &[u8; 64],
-    widths: &[u8; 13],
-    heights: &[u8; 13],
-    limits: &[u8; 13],
-    mi_size: u8,
-    tx_size: u8,
-    skip: u8,
-    ref_frame: i32,
-    y_mode: u8,
-    segment_id: u8,
-) -> u32
-    requires { (mi_size ≤ 12) × (tx_size ≤ 3) × (widths.now ≡ by_size mi_width_log2) × (heights.now ≡ by_size mi_height_log2) × (found (bad_level levels.now) 64 ≡ false) }
-    ensures { result ≡ packed (cell_from levels.now mi_size tx_size (min tx_size (get_or limits.now mi_size 0)) skip ref_frame y_mode segment_id) }
-{
-    let uv_tx = uv_tx_unchecked(limits, tx_size, mi_size);
-    let cell = cell_unchecked(
-        levels, widths, heights, mi_size, tx_size, uv_tx, skip, ref_frame, y_mode, segment_id,
-    );
-    pack_unchecked(cell)
+    // The word of a cell whose size and transform were tested.
+    #[tactic(auto, using(crate::specs::RowLaws::cell_fits))]
+    pub(crate) fn word_unchecked(&self, mi: CellMi) -> u32
+        requires { (mi.mi_size ≤ 12) × (mi.tx_size ≤ 3) }
+        ensures { result ≡ packed (cell_from self.now.levels.now mi.mi_size mi.tx_size (min mi.tx_size (get_or self.now.limits mi.mi_size 0)) mi.skip mi.ref_frame mi.y_mode mi.segment_id) }
+    {
+        pack_unchecked(self.cell_unchecked(mi))
+    }
 }
