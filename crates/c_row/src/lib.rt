@@ -5,29 +5,13 @@
 ghost use Rattle.std.specs.Prelude.{◌≡◌};
 ghost use Rattle.base.specs.Outcome.{Answers};
 ghost use Rattle.cells.specs.Cell.{cell_of};
-ghost use Rattle.row.specs.Row.{mode_info, row, returned_of};
-ghost use Rattle.c_border.specs.Border.{numbers_of, crossing};
+ghost use Rattle.row.specs.Row.{mode_info, row};
+ghost use Rattle.c_border.specs.Border.{numbers_of};
 
-use c_border::{Refusal, crossed};
+use c_border::{Refusal, refusal_of};
 use cells::LfCell;
-use row::RowAnswer;
-
-// An answer as it crosses the border.
-pub fn refusal_of(answer: RowAnswer) -> Refusal
-    ensures { numbers_of result ≡ crossing (returned_of answer) }
-{
-    match answer {
-        RowAnswer::Done => crossed(0, 0),
-        RowAnswer::Sharpness => crossed(1, 0),
-        RowAnswer::Depth => crossed(2, 0),
-        RowAnswer::Subsampling => crossed(3, 0),
-        RowAnswer::FrameSize => crossed(4, 0),
-        RowAnswer::Base => crossed(5, 0),
-        RowAnswer::Level(k) => crossed(6, k),
-        RowAnswer::Short => crossed(7, 0),
-        RowAnswer::Block(k) => crossed(8, k),
-    }
-}
+use row::mode_info::ModeInfoLists;
+use row::row_cells;
 
 // Packs the cells of the superblock row at mi_row into the front of cells; words behind them are left.
 pub fn springspade_row(
@@ -49,24 +33,17 @@ pub fn springspade_row(
 ) -> Refusal
     ensures { Answers (row (mode_info mi_sizes.now tx_sizes.now skips.now ref_frames.now y_modes.now segment_ids.now) levels.now sharpness bit_depth sub_x sub_y mi_cols mi_rows mi_row cells.old) (numbers_of result) cells.old cells.new }
 {
-    let answer = row::row_cells(
+    let lists = ModeInfoLists {
         mi_sizes,
         tx_sizes,
         skips,
         ref_frames,
         y_modes,
         segment_ids,
-        levels,
-        sharpness,
-        bit_depth,
-        sub_x,
-        sub_y,
-        mi_cols,
-        mi_rows,
-        mi_row,
-        cells,
-    );
-    refusal_of(answer)
+    };
+    refusal_of(row_cells(
+        lists, levels, sharpness, bit_depth, sub_x, sub_y, mi_cols, mi_rows, mi_row, cells,
+    ))
 }
 
 // The fields of a cell's word.
