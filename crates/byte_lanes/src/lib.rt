@@ -6,9 +6,8 @@ ghost use Rattle.lanes.specs.Lanes.{EachLane};
 ghost use Rattle.byte_lanes.specs.ByteLanes.{Keys, ArmsTo, has_arm, arm_lane, narrow_lane, wide_lane, Filtered};
 
 use byte_filters::{byte_four, byte_fourteen, byte_six, lane_arm_unchecked};
-use lanes::table::{
-    lane_at_unchecked, put_four_unchecked, put_fourteen_unchecked, put_six_unchecked,
-};
+use lane_filters::Lane;
+use lanes::table::{each_lane_unchecked, lane_at_unchecked};
 
 // What filtering changed: some lane, and some tap outside p3 to q3.
 #[derive(Clone, Copy)]
@@ -40,38 +39,6 @@ fn any_arm(arms: &[u8; 16], arm: u8) -> bool
     on
 }
 
-// The lanes of each arm. The others stay.
-
-fn lanes_four(t: &mut [u8; 256], keys: &[u8; 16], arms: &[u8; 16])
-    requires { length t.old ≡ 256 }
-    ensures { EachLane 16 (arm_lane 1 (narrow_lane keys.now) arms.now) t.old t.new × (length t.new ≡ 256) }
-{
-    for l in 0..16 {
-        let r = byte_four(lane_at_unchecked(t, l), keys[l], arms[l]);
-        put_four_unchecked(t, l, r);
-    }
-}
-
-fn lanes_six(t: &mut [u8; 256], arms: &[u8; 16])
-    requires { length t.old ≡ 256 }
-    ensures { EachLane 16 (arm_lane 2 (wide_lane 3) arms.now) t.old t.new × (length t.new ≡ 256) }
-{
-    for l in 0..16 {
-        let r = byte_six(lane_at_unchecked(t, l), arms[l]);
-        put_six_unchecked(t, l, r);
-    }
-}
-
-fn lanes_fourteen(t: &mut [u8; 256], arms: &[u8; 16])
-    requires { length t.old ≡ 256 }
-    ensures { EachLane 16 (arm_lane 3 (wide_lane 4) arms.now) t.old t.new × (length t.new ≡ 256) }
-{
-    for l in 0..16 {
-        let r = byte_fourteen(lane_at_unchecked(t, l), arms[l]);
-        put_fourteen_unchecked(t, l, r);
-    }
-}
-
 // Filters each lane by its key. A loop that would change no lane is left out.
 pub fn filter_byte_lanes_unchecked(t: &mut [u8; 256], keys: &[u8; 16], sharpness: u8) -> Changed
     requires { (length t.old ≡ 256) × Keys keys.now × (sharpness ≤ 7) }
@@ -82,13 +49,15 @@ pub fn filter_byte_lanes_unchecked(t: &mut [u8; 256], keys: &[u8; 16], sharpness
     let six = any_arm(&arms, 2);
     let outer = any_arm(&arms, 3);
     if four {
-        lanes_four(t, keys, &arms);
+        each_lane_unchecked(t, 16, |a: Lane<u8>, l: usize| {
+            byte_four(a, keys[l], arms[l])
+        });
     }
     if six {
-        lanes_six(t, &arms);
+        each_lane_unchecked(t, 16, |a: Lane<u8>, l: usize| byte_six(a, arms[l]));
     }
     if outer {
-        lanes_fourteen(t, &arms);
+        each_lane_unchecked(t, 16, |a: Lane<u8>, l: usize| byte_fourteen(a, arms[l]));
     }
     Changed {
         some: four | six | outer,

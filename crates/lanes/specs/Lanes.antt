@@ -1,8 +1,8 @@
 -- Lanes: 16 lines side by side in a list of 256, tap k of lane l at place 16 k + l.
 -- Assumes nothing.
-use Rattle.std.specs.Prelude.{◌≡◌, false, List, [], ◌∷◌, ℕ, ◌+◌, ◌*◌, ◌<◌, ◌≤◌, length, get_or, set}
+use Rattle.std.specs.Prelude.{◌≡◌, false, List, [], ◌∷◌, ℕ, ◌+◌, ◌*◌, ◌<◌, ◌≤◌, length, get_or, map, set}
 use Rattle.base.specs.Depth.{scaled}
-use Rattle.lane_filters.specs.LaneSamples.{samples_of}
+use Rattle.lane_filters.specs.LaneSamples.{samples_of, values_of, put_taps}
 use Rattle.lane_filters.specs.declared.Lane.{Lane}
 use Rattle.line.specs.Masks.{filter_mask}
 use Rattle.wide_filter.specs.Taps.{tap}
@@ -49,3 +49,7 @@ LanesTo m f t u = EachLaneTo m (λ _. f) t u
 -- the filter mask is off in those of the first m lanes that are below n
 pub record NoneTo (m n depth limit blimit : ℕ) (t : List ℕ) : Type 0 where
   pub none : (l : ℕ) → l < m → l < n → filter_mask (scaled depth limit) (scaled depth blimit) (lane_of t l) ≡ false
+
+-- what a filter may give of lane l of the table t, for each l below n, is what line makes of that lane's samples
+pub record Follows {T R : Type 0} (value : T → ℕ) (first : ℕ) (taps : R → List T) (gives : Lane T → ℕ → R → Type 0) (n : ℕ) (t : List ℕ) (line : ℕ → List ℕ → List ℕ) : Type 0 where
+  pub each : (l : ℕ) (a : Lane T) (r : R) → l < n → values_of value a ≡ lane_of t l → gives a l r → put_taps (values_of value a) first (map value (taps r)) ≡ line l (values_of value a)

@@ -1,11 +1,12 @@
 -- Laws of lanes: what a store to one lane does to it and to the others.
 -- Assumes nothing.
-use Rattle.std.specs.Prelude.{◌≡◌, refl, ◌≢◌, Bool, true, false, ◌&&◌, List, [], ◌∷◌, ℕ, zero, suc, ◌+◌, ◌*◌, ◌<◌, ◌≤◌, ltb, length, get_or, set}
+use Rattle.std.specs.Prelude.{◌≡◌, refl, ◌≢◌, Bool, true, false, ◌&&◌, List, [], ◌∷◌, ℕ, zero, suc, ◌+◌, ◌*◌, ◌<◌, ◌≤◌, ltb, length, get_or, map, set}
 use Rattle.std.proofs.Common.{sym, ap, ◌∙◌, ⊎_elim, arith, length-set, get_or-set_same, get_or-set_other, ext_get_or, lt-ltb}
 use Rattle.std.proofs.lemmas.Grind.{get_or_default_zero}
+use Rattle.std.proofs.lemmas.List.{get_or-map, map-id, map-set, length-map}
 use Rattle.base.specs.Depth.{scaled}
 use Rattle.base.specs.NotationLaws.{split}
-use Rattle.lane_filters.specs.LaneSamples.{samples_of, put_taps, Small}
+use Rattle.lane_filters.specs.LaneSamples.{samples_of, values_of, put_taps, Small}
 use Rattle.lane_filters.specs.declared.Lane.{Lane}
 use Rattle.line.specs.Masks.{filter_mask}
 use Rattle.line.specs.SampleFiltering.{sample_filtering}
@@ -78,7 +79,7 @@ other t l k v m h g d =
         ∙ get_or-set_other t (16 * k + l) (16 * i + m) v 0 (λ e. d (omega arith))
         ∙ sym (lane_tap t m i b)
 
-pub put-length : (t : List ℕ) (l k : ℕ) (vs : List ℕ) → length (put_lane t l k vs) ≡ length t
+pub put-length : {T : Type 0} (t : List T) (l k : ℕ) (vs : List T) → length (put_lane t l k vs) ≡ length t
 put-length t l k [] = refl
 put-length t l k (v ∷ vs) = put-length (set t (16 * k + l) v) l (k + 1) vs ∙ length-set t (16 * k + l) v
 
@@ -180,3 +181,40 @@ module _ (n depth limit blimit : ℕ) where
   pub none_kept : (m size thresh : ℕ) (t : List ℕ) → n ≤ m → NoneTo m n depth limit blimit t → Lanes n (sample_filtering depth size limit blimit thresh) t t
   none_kept m size thresh t h g =
       record { each = λ l b. filters_none depth size limit blimit thresh (lane_of t l) (g.none l (omega arith) b) }
+
+-- ---- lanes of any samples, by the value of each
+
+module _ {T : Type 0} (value : T → ℕ) where
+  -- what is read of a whole table is the lane
+  pub lane_values : {a : Lane T} (t : List T) (l : ℕ) → length t ≡ 256 → l < 16 → a ≡ lane_in t l a → values_of value a ≡ lane_of (map value t) l
+  unfolding lane_of
+  lane_values {a} t l n h is =
+      ap (values_of value) is
+      ∙ λ i. at l a.p7 (omega arith) i ∷ at (16 + l) a.p6 (omega arith) i ∷ at (32 + l) a.p5 (omega arith) i ∷ at (48 + l) a.p4 (omega arith) i ∷ at (64 + l) a.p3 (omega arith) i ∷ at (80 + l) a.p2 (omega arith) i ∷ at (96 + l) a.p1 (omega arith) i ∷ at (112 + l) a.p0 (omega arith) i ∷ at (128 + l) a.q0 (omega arith) i ∷ at (144 + l) a.q1 (omega arith) i ∷ at (160 + l) a.q2 (omega arith) i ∷ at (176 + l) a.q3 (omega arith) i ∷ at (192 + l) a.q4 (omega arith) i ∷ at (208 + l) a.q5 (omega arith) i ∷ at (224 + l) a.q6 (omega arith) i ∷ at (240 + l) a.q7 (omega arith) i ∷ []
+    where
+      at : (i : ℕ) (d : T) → i < 256 → value (get_or t i d) ≡ tap (map value t) i
+      at i d b = sym (get_or-map value t i d 0 (omega arith))
+
+  pub put_values : (t : List T) (l k : ℕ) (vs : List T) → map value (put_lane t l k vs) ≡ put_lane (map value t) l k (map value vs)
+  put_values t l k [] = refl
+  put_values t l k (v ∷ vs) = put_values (set t (16 * k + l) v) l (k + 1) vs ∙ ap (λ (u : List ℕ). put_lane u l (k + 1) (map value vs)) (map-set value t (16 * k + l) v)
+
+  -- a lane more is done
+  pub lane_put : (f : ℕ → List ℕ → List ℕ) (m k : ℕ) (a : Lane T) (vs u v : List T) (t : List ℕ) → m < 16 → k + length vs ≤ 16 → length u ≡ 256 → EachLaneTo m f t (map value u) → values_of value a ≡ lane_of (map value u) m → put_taps (values_of value a) k (map value vs) ≡ f m (values_of value a) → v ≡ put_lane u m k vs → EachLaneTo (m + 1) f t (map value v)
+  lane_put f m k a vs u v t h g n inv is e d =
+      (lane_more k (map value vs) h (rw length-map g) (rw length-map n) inv is e (ap (map value) d ∙ put_values u m k vs)).1
+
+  -- and the others are as they were
+  pub lane_rest : (m k l : ℕ) (vs u v : List T) → m < 16 → l < 16 → l ≢ m → v ≡ put_lane u m k vs → lane_of (map value v) l ≡ lane_of (map value u) l
+  lane_rest m k l vs u v h g n d =
+      ap (λ (w : List ℕ). lane_of w l) (ap (map value) d ∙ put_values u m k vs) ∙ put_other (map value u) m k (map value vs) l h g n
+
+-- a lane of a table of 12 bits is small
+pub small_lane : (t : List ℕ) (l : ℕ) (a : Lane ℕ) → l < 16 → Table t → samples_of a ≡ lane_of (map (λ n. n) t) l → Small a
+small_lane t l a h s is =
+    record { p7 = at 0 (omega arith); p6 = at 1 (omega arith); p5 = at 2 (omega arith); p4 = at 3 (omega arith); p3 = at 4 (omega arith); p2 = at 5 (omega arith); p1 = at 6 (omega arith); p0 = at 7 (omega arith); q0 = at 8 (omega arith); q1 = at 9 (omega arith); q2 = at 10 (omega arith); q3 = at 11 (omega arith); q4 = at 12 (omega arith); q5 = at 13 (omega arith); q6 = at 14 (omega arith); q7 = at 15 (omega arith) }
+  where
+    at : (k : ℕ) → k < 16 → tap (samples_of a) k < 4096
+    at k b =
+        let same : tap (samples_of a) k ≡ tap t (16 * k + l) = ap (λ (u : List ℕ). tap u k) (is ∙ ap (λ (u : List ℕ). lane_of u l) (map-id t)) ∙ lane_tap t l k b in
+        omega (arith, same, s.small (16 * k + l) (omega arith))

@@ -9,10 +9,10 @@ ghost use Rattle.lanes.specs.Lanes.{Table, Lanes, NoneTo};
 pub mod table;
 
 use lane_filters::{
-    lane_four_unchecked, lane_fourteen_unchecked, lane_mask_unchecked, lane_six_unchecked,
+    Lane, lane_four_unchecked, lane_fourteen_unchecked, lane_mask_unchecked, lane_six_unchecked,
 };
 use strength::FilterStrength;
-use table::{lane_at_unchecked, put_four_unchecked, put_fourteen_unchecked, put_six_unchecked};
+use table::{each_lane_unchecked, lane_at_unchecked};
 
 // n rounded up to whole vectors of 8 lanes, so that no loop ends in single lanes.
 fn whole(n: usize) -> usize
@@ -35,41 +35,6 @@ fn any_mask(t: &[u16; 256], m: usize, n: u16, depth: u8, limit: u8, blimit: u8) 
     on
 }
 
-// The lanes at size 0, 1 and 2: a loop for each, so that none asks for the size.
-
-fn lanes_four(t: &mut [u16; 256], n: usize, depth: u8, limit: u8, blimit: u8, thresh: u8)
-    requires { (supported depth ≡ true) × Table t.old × (n ≤ 16) }
-    ensures { Lanes n (sample_filtering depth 0 limit blimit thresh) t.old t.new }
-{
-    for l in 0..n {
-        let a = lane_at_unchecked(t, l);
-        let r = lane_four_unchecked(a, depth, limit, blimit, thresh);
-        put_four_unchecked(t, l, r);
-    }
-}
-
-fn lanes_six(t: &mut [u16; 256], n: usize, depth: u8, limit: u8, blimit: u8, thresh: u8)
-    requires { (supported depth ≡ true) × Table t.old × (n ≤ 16) }
-    ensures { Lanes n (sample_filtering depth 1 limit blimit thresh) t.old t.new }
-{
-    for l in 0..n {
-        let a = lane_at_unchecked(t, l);
-        let r = lane_six_unchecked(a, depth, limit, blimit, thresh);
-        put_six_unchecked(t, l, r);
-    }
-}
-
-fn lanes_fourteen(t: &mut [u16; 256], n: usize, depth: u8, limit: u8, blimit: u8, thresh: u8)
-    requires { (supported depth ≡ true) × Table t.old × (n ≤ 16) }
-    ensures { Lanes n (sample_filtering depth 2 limit blimit thresh) t.old t.new }
-{
-    for l in 0..n {
-        let a = lane_at_unchecked(t, l);
-        let r = lane_fourteen_unchecked(a, depth, limit, blimit, thresh);
-        put_fourteen_unchecked(t, l, r);
-    }
-}
-
 // Filters the first n lanes. The answer is false where none of them changes, so that nothing need be stored.
 pub fn filter_lanes_unchecked(
     t: &mut [u16; 256],
@@ -88,14 +53,21 @@ pub fn filter_lanes_unchecked(
     if !any_mask(t, m, n as u16, depth, limit, blimit) {
         return false;
     }
+    // A loop for each size, so that none asks for it.
     if size == 0 {
-        lanes_four(t, m, depth, limit, blimit, thresh);
+        each_lane_unchecked(t, m, |a: Lane<u16>, _: usize| {
+            lane_four_unchecked(a, depth, limit, blimit, thresh)
+        });
         return true;
     }
     if size == 1 {
-        lanes_six(t, m, depth, limit, blimit, thresh);
+        each_lane_unchecked(t, m, |a: Lane<u16>, _: usize| {
+            lane_six_unchecked(a, depth, limit, blimit, thresh)
+        });
         return true;
     }
-    lanes_fourteen(t, m, depth, limit, blimit, thresh);
+    each_lane_unchecked(t, m, |a: Lane<u16>, _: usize| {
+        lane_fourteen_unchecked(a, depth, limit, blimit, thresh)
+    });
     true
 }

@@ -1,8 +1,10 @@
 // Sixteen lanes side by side: tap k of lane l stands at 16 k + l.
-ghost use Rattle.std.specs.Prelude.{◌≡◌, ◌<◌};
-ghost use Rattle.lane_filters.specs.LaneSamples.{four_of, six_of, fourteen_of};
-ghost use Rattle.lanes.specs.Lanes.{lane_in, put_lane};
+ghost use Rattle.std.specs.Prelude.{◌≡◌, List, ℕ, ◌+◌, ◌<◌, ◌≤◌, length, map};
+ghost use Rattle.std.proofs.Common.{lit≤};
+ghost use Rattle.lane_filters.specs.LaneSamples.{values_of, four_of, six_of, fourteen_of};
+ghost use Rattle.lanes.specs.Lanes.{lane_in, lane_of, put_lane, EachLane, Follows};
 
+use lane_filters::masks::Sample;
 use lane_filters::{Four, Lane, Six};
 
 pub fn lane_at_unchecked<T: Copy>(t: &[T; 256], l: usize) -> Lane<T>
@@ -29,46 +31,93 @@ pub fn lane_at_unchecked<T: Copy>(t: &[T; 256], l: usize) -> Lane<T>
     }
 }
 
-// Stores the samples of lane l that can change.
+// A part of a lane that a filter can change: the taps from `first` on.
+pub trait Part<T>: Copy {
+    ghost first: { ℕ };
 
-pub fn put_four_unchecked<T: Copy>(t: &mut [T; 256], l: usize, r: Four<T>)
-    requires { l < 16 }
-    ensures { t.new ≡ put_lane t.old l 6 (four_of r) }
-{
-    t[96 + l] = r.p1;
-    t[112 + l] = r.p0;
-    t[128 + l] = r.q0;
-    t[144 + l] = r.q1;
+    ghost taps: { Self → List T };
+
+    fn put_unchecked(self, t: &mut [T; 256], l: usize)
+        requires { l < 16 }
+        ensures { t.new ≡ put_lane t.old l first (taps self) };
+
+    ghost within: { (r : Self) → first + length (taps r) ≤ 16 };
 }
 
-pub fn put_six_unchecked<T: Copy>(t: &mut [T; 256], l: usize, r: Six<T>)
-    requires { l < 16 }
-    ensures { t.new ≡ put_lane t.old l 5 (six_of r) }
-{
-    t[80 + l] = r.p2;
-    t[96 + l] = r.p1;
-    t[112 + l] = r.p0;
-    t[128 + l] = r.q0;
-    t[144 + l] = r.q1;
-    t[160 + l] = r.q2;
+// p1 to q1.
+impl<T: Copy> Part<T> for Four<T> {
+    ghost first = { 6 };
+
+    ghost taps = { four_of };
+
+    ghost within = { λ r. lit≤ tt };
+
+    fn put_unchecked(self, t: &mut [T; 256], l: usize) {
+        t[96 + l] = self.p1;
+        t[112 + l] = self.p0;
+        t[128 + l] = self.q0;
+        t[144 + l] = self.q1;
+    }
 }
 
-pub fn put_fourteen_unchecked<T: Copy>(t: &mut [T; 256], l: usize, r: Lane<T>)
-    requires { l < 16 }
-    ensures { t.new ≡ put_lane t.old l 1 (fourteen_of r) }
+// p2 to q2.
+impl<T: Copy> Part<T> for Six<T> {
+    ghost first = { 5 };
+
+    ghost taps = { six_of };
+
+    ghost within = { λ r. lit≤ tt };
+
+    fn put_unchecked(self, t: &mut [T; 256], l: usize) {
+        t[80 + l] = self.p2;
+        t[96 + l] = self.p1;
+        t[112 + l] = self.p0;
+        t[128 + l] = self.q0;
+        t[144 + l] = self.q1;
+        t[160 + l] = self.q2;
+    }
+}
+
+// p6 to q6.
+impl<T: Copy> Part<T> for Lane<T> {
+    ghost first = { 1 };
+
+    ghost taps = { fourteen_of };
+
+    ghost within = { λ r. lit≤ tt };
+
+    fn put_unchecked(self, t: &mut [T; 256], l: usize) {
+        t[16 + l] = self.p6;
+        t[32 + l] = self.p5;
+        t[48 + l] = self.p4;
+        t[64 + l] = self.p3;
+        t[80 + l] = self.p2;
+        t[96 + l] = self.p1;
+        t[112 + l] = self.p0;
+        t[128 + l] = self.q0;
+        t[144 + l] = self.q1;
+        t[160 + l] = self.q2;
+        t[176 + l] = self.q3;
+        t[192 + l] = self.q4;
+        t[208 + l] = self.q5;
+        t[224 + l] = self.q6;
+    }
+}
+
+// The first n lanes, each by the filter.
+pub fn each_lane_unchecked<T: Sample, R: Part<T>, F: Fn(Lane<T>, usize) -> R>(
+    t: &mut [T; 256],
+    n: usize,
+    filter: F,
+)
+    requires few { (n ≤ 16) × (length t.old ≡ 256) }
+    requires callable { (l : ℕ) (a : Lane T) → l < n → values_of T.value a ≡ lane_of (map T.value t.old) l → F.pre filter a l }
+    ensures long { length t.new ≡ 256 }
+    ensures filtered { (line : ℕ → List ℕ → List ℕ) → Follows T.value R.first R.taps (F.post filter) n (map T.value t.old) line → EachLane n line (map T.value t.old) (map T.value t.new) }
 {
-    t[16 + l] = r.p6;
-    t[32 + l] = r.p5;
-    t[48 + l] = r.p4;
-    t[64 + l] = r.p3;
-    t[80 + l] = r.p2;
-    t[96 + l] = r.p1;
-    t[112 + l] = r.p0;
-    t[128 + l] = r.q0;
-    t[144 + l] = r.q1;
-    t[160 + l] = r.q2;
-    t[176 + l] = r.q3;
-    t[192 + l] = r.q4;
-    t[208 + l] = r.q5;
-    t[224 + l] = r.q6;
+    for l in 0..n {
+        let a = lane_at_unchecked(t, l);
+        let r = filter(a, l);
+        r.put_unchecked(t, l);
+    }
 }

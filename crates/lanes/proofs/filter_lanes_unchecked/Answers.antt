@@ -3,7 +3,11 @@ use mathlib.Core.Path.{◌≡◌, refl}
 use mathlib.Core.Bool.{Bool, true, false}
 use Prim.Native.Nat.{ℕ}
 use native.Mathlib.Omega.{arith}
-use Rattle.lanes.specs.LanesLaws.{lanes_fewer, none_kept}
+use Rattle.std.proofs.Common.{of_calls, List, ◌<◌}
+use Rattle.std.proofs.lemmas.List.{map-id}
+use Rattle.lane_filters.specs.LaneSamples.{Small}
+use Rattle.line.specs.SampleFiltering.{sample_filtering}
+use Rattle.lanes.specs.LanesLaws.{lanes_fewer, none_kept, small_lane}
 use Rattle.lanes.proofs.filter_lanes_unchecked.Goals as goal
 
 -- where the answer is true nothing is said of an answer false
@@ -17,18 +21,45 @@ returns-then-not-any_mask c =
     let a = whole.args in
     (none_kept a.n a.depth a.strength.limit a.strength.blimit whole.whole-m.result a.size a.strength.thresh a.t.now whole.whole-m.ensures.0 (any.any_mask.ensures (c.if-not-any_mask.true)), λ e. refl)
 
+pub each_lane_unchecked-requires : goal.each_lane_unchecked-requires
+each_lane_unchecked-requires c =
+    let table = c.requires.3 in (
+      omega arith,
+      ((omega arith, table.long), λ l a h is. let s : Small a = small_lane c.args.t.now l a (omega arith) table is in search (rules, of_calls)),
+    )
+
 pub returns-then-size-eq0 : goal.returns-then-size-eq0
 returns-then-size-eq0 c =
-    let at-if2 = c in
-    (rw at-if2.if-size-eq0.true (lanes_fewer at-if2.whole-m.ensures.0 c.lanes_four.ensures), unasked)
+    let a = c.args in
+    let f : ℕ → List ℕ → List ℕ = λ l. sample_filtering a.depth 0 a.strength.limit a.strength.blimit a.strength.thresh in
+    let done = c.each_lane_unchecked.ensures.filtered f (record { each = λ l a r h is gives. search (rules, of_calls) }) in
+    (rw c.if-size-eq0.true (lanes_fewer c.whole-m.ensures.0 (rw (map-id, map-id) at done)), unasked)
+
+pub each_lane_unchecked-requires-then-size-eq1 : goal.each_lane_unchecked-requires-then-size-eq1
+each_lane_unchecked-requires-then-size-eq1 c =
+    let table = c.requires.3 in (
+      omega arith,
+      ((omega arith, table.long), λ l a h is. let s : Small a = small_lane c.args.t.now l a (omega arith) table is in search (rules, of_calls)),
+    )
 
 pub returns-then-size-eq1 : goal.returns-then-size-eq1
 returns-then-size-eq1 c =
-    let at-if3 = c in
-    (rw at-if3.if-size-eq1.true (lanes_fewer at-if3.whole-m.ensures.0 c.lanes_six.ensures), unasked)
+    let a = c.args in
+    let f : ℕ → List ℕ → List ℕ = λ l. sample_filtering a.depth 1 a.strength.limit a.strength.blimit a.strength.thresh in
+    let done = c.each_lane_unchecked-then-size-eq1.ensures.filtered f (record { each = λ l a r h is gives. search (rules, of_calls) }) in
+    (rw c.if-size-eq1.true (lanes_fewer c.whole-m.ensures.0 (rw (map-id, map-id) at done)), unasked)
+
+pub each_lane_unchecked-requires-2 : goal.each_lane_unchecked-requires-2
+each_lane_unchecked-requires-2 c =
+    let table = c.requires.3 in (
+      omega arith,
+      ((omega arith, table.long), λ l a h is. let s : Small a = small_lane c.args.t.now l a (omega arith) table is in search (rules, of_calls)),
+    )
 
 pub returns : goal.returns
 returns c =
-    let whole = c in
-    let two : whole.args.size ≡ 2 = omega arith in
-    (rw two (lanes_fewer whole.whole-m.ensures.0 c.lanes_fourteen.ensures), unasked)
+    let a = c.args in
+    let f : ℕ → List ℕ → List ℕ = λ l. sample_filtering a.depth 2 a.strength.limit a.strength.blimit a.strength.thresh in
+    let done = c.each_lane_unchecked-2.ensures.filtered f (record { each = λ l a r h is gives. search (rules, of_calls) }) in
+    let two : a.size ≡ 2 = omega arith in
+    (rw two (lanes_fewer c.whole-m.ensures.0 (rw (map-id, map-id) at done)), unasked)
