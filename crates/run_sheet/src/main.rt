@@ -1,49 +1,40 @@
 // Reads a run sheet on standard input and prints the runs of its pass.
 #![tactic(auto)]
 
-ghost use Rattle.std.specs.Prelude.{◌≤◌, length, IfOk, OnOk};
+ghost use Rattle.std.specs.Prelude.{OnOk};
 ghost use Rattle.std.specs.Io.KnownBytes.{Appends};
 ghost use Rattle.sheet.specs.Sheet.{run_sheet};
 
 use anyhow::{Context, Result};
-use sheet::{SheetAnswer, run_sheet};
+use sheet::run_sheet;
+use std::alloc::Global;
 use std::io;
 use std::io::{Read, Write};
+
+// The largest sheet has 8 bytes and 8,192 words.
+const LARGEST: u64 = 32776;
 
 fn print_sheet<W: Write>(out: &mut W, sheet: &[u8]) -> Result<()>
     ensures { OnOk result (Appends (W.contents out.old) (W.contents out.new) (run_sheet sheet.now)) }
 {
     let mut text = [0u8; 2048];
-    let SheetAnswer::Written(count) = run_sheet(sheet, &mut text) else {
+    let Some(count) = run_sheet(sheet, &mut text) else {
         return Ok(());
     };
     out.write_all(&text[..count])
         .context("the output could not be written")
 }
 
-// Reads until the part is full or the input ends.
-fn read_full<R: Read>(input: &mut R, part: &mut [u8]) -> io::Result<usize>
-    ensures { IfOk result (λ count. count ≤ length part.new) }
-{
-    let mut done = 0;
-    while done < part.len() {
-        let more = input.read(&mut part[done..])?;
-        if more == 0 {
-            break;
-        }
-        done += more;
-    }
-    Ok(done)
-}
-
 // Reads until the input ends or the largest sheet is read: what lies behind it counts for nothing.
-fn read_and_print<R: Read, W: Write>(input: &mut R, out: &mut W) -> Result<()> {
-    // The largest sheet has 8 bytes and 8,192 words.
-    let mut sheet = [0u8; 32776];
-    let count = read_full(input, &mut sheet).context("the sheet could not be read")?;
-    print_sheet(out, &sheet[..count])
+fn read_and_print<R: Read, W: Write>(alloc: Global, input: &mut R, out: &mut W) -> Result<()> {
+    let mut sheet = Vec::new(alloc);
+    input
+        .take(LARGEST)
+        .read_to_end(&mut sheet)
+        .context("the sheet could not be read")?;
+    print_sheet(out, &sheet)
 }
 
 fn main(rt: HostRuntime) -> Result<()> {
-    read_and_print(&mut rt.stdin(), &mut io::writer(&rt))
+    read_and_print(rt.alloc(), &mut rt.stdin(), &mut io::writer(&rt))
 }

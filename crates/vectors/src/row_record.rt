@@ -1,185 +1,119 @@
 // A record of a row, laid out as tests/differential/src/vectors.rs says.
-ghost use Rattle.std.specs.Prelude.{◌<◌, ◌≤◌};
+ghost use Rattle.std.specs.Prelude.{◌≤◌, ◌<◌, ◌+◌};
 
-use crate::numbers::{signed32_at, unsigned32_at, wide, wide16_at};
-use crate::replay::Record;
+use crate::numbers::{i32_at, is_answer, size16_at, u32_at};
 use cell_records::{CellRecord, record_of, word_of};
-use record_replay::rows::{RowMade, row_front_unchecked};
+use record_replay::rows::row_front_unchecked;
 use record_row::RowNumbers;
-use row::{RowAnswer, row_cells};
-
-pub(crate) const LENGTH: usize = 492;
+use row::mode_info::ModeInfoLists;
+use row::row_cells;
+use std::array;
 
 // Each list of a record has room for so many entries.
 const ENTRIES: usize = 24;
 
 // The lists' lengths. A record that says more than there is room for is different.
-fn are_lengths(record: &Record) -> bool {
-    for at in 10..17 {
-        if ENTRIES < wide(record[at]) {
-            return false;
-        }
-    }
-    true
+fn are_lengths(record: &[u8; 492]) -> bool {
+    record[10..17]
+        .iter()
+        .all(|length| usize::from(*length) <= ENTRIES)
 }
 
-// At most the room, also in a record that says more: so a list never reaches past it.
-fn length_at(record: &Record, at: usize) -> usize
-    requires { at < 4096 }
+// At most the room, also in a record that says more.
+fn length_at(record: &[u8; 492], at: usize) -> usize
+    requires { at < 492 }
     ensures { result ≤ 24 }
 {
-    let length = wide(record[at]);
-    if length < ENTRIES { length } else { ENTRIES }
+    usize::from(record[at]).min(ENTRIES)
 }
 
-fn list_at(record: &Record, start: usize, length: usize) -> &[u8]
-    requires { (start < 4000) × (length ≤ 24) }
+// The list whose bytes begin at the start, and whose length stands at a place of its own.
+fn list_at(record: &[u8; 492], start: usize, at: usize) -> &[u8]
+    requires { (start + 24 ≤ 492) × (at < 492) }
 {
-    let all = &record[..];
-    let end = start + length;
-    &all[start..end]
+    &record[start..start + length_at(record, at)]
 }
 
-fn levels_of(record: &Record) -> [u8; 64] {
-    let mut out = [0u8; 64];
-    for k in 0..64 {
-        out[k] = record[20 + k];
-    }
-    out
+fn references_of(record: &[u8; 492]) -> [i32; ENTRIES] {
+    array::from_fn(|k| i32_at(record, 156 + 4 * k))
 }
 
-fn references_of(record: &Record) -> [i32; ENTRIES] {
-    let mut out = [0i32; ENTRIES];
-    for k in 0..ENTRIES {
-        out[k] = signed32_at(record, 156 + 4 * k);
-    }
-    out
-}
-
-fn words_at(record: &Record, start: usize) -> [u32; ENTRIES]
-    requires { start < 3000 }
-{
-    let mut out = [0u32; ENTRIES];
-    for k in 0..ENTRIES {
-        out[k] = unsigned32_at(record, start + 4 * k);
-    }
-    out
-}
-
-fn row_answer(record: &Record, cells: &mut [u32]) -> RowAnswer {
-    let ref_frames = references_of(record);
-    let levels = levels_of(record);
-    let references = length_at(record, 13);
-    row_cells(
-        list_at(record, 84, length_at(record, 10)),
-        list_at(record, 108, length_at(record, 11)),
-        list_at(record, 132, length_at(record, 12)),
-        &ref_frames[0..references],
-        list_at(record, 252, length_at(record, 14)),
-        list_at(record, 276, length_at(record, 15)),
-        &levels,
-        record[0],
-        record[1],
-        record[2],
-        record[3],
-        wide16_at(record, 4),
-        wide16_at(record, 6),
-        wide16_at(record, 8),
-        cells,
-    )
-}
-
-fn are_same(a: &[u32; ENTRIES], b: &[u32; ENTRIES]) -> bool {
-    for k in 0..ENTRIES {
-        if a[k] != b[k] {
-            return false;
-        }
-    }
-    true
-}
-
-fn is_refusal(record: &Record, number: u8, place: usize) -> bool {
-    (number == record[17]) & (place == wide(record[18]))
-}
-
-fn is_answer(record: &Record, answer: RowAnswer) -> bool {
-    match answer {
-        RowAnswer::Done => is_refusal(record, 0, 0),
-        RowAnswer::Sharpness => is_refusal(record, 1, 0),
-        RowAnswer::Depth => is_refusal(record, 2, 0),
-        RowAnswer::Subsampling => is_refusal(record, 3, 0),
-        RowAnswer::FrameSize => is_refusal(record, 4, 0),
-        RowAnswer::Base => is_refusal(record, 5, 0),
-        RowAnswer::Level(place) => is_refusal(record, 6, place),
-        RowAnswer::Short => is_refusal(record, 7, 0),
-        RowAnswer::Block(place) => is_refusal(record, 8, place),
+fn lists_of<'a>(record: &'a [u8; 492], references: &'a [i32; ENTRIES]) -> ModeInfoLists<'a> {
+    ModeInfoLists {
+        mi_sizes: list_at(record, 84, 10),
+        tx_sizes: list_at(record, 108, 11),
+        skips: list_at(record, 132, 12),
+        ref_frames: &references[..length_at(record, 13)],
+        y_modes: list_at(record, 252, 14),
+        segment_ids: list_at(record, 276, 15),
     }
 }
 
-// A refusal leaves the words, and so does an accepted row those behind its cells: all are compared.
-pub(crate) fn is_equal(record: &Record) -> bool {
-    let mut cells = words_at(record, 300);
-    let after = words_at(record, 396);
-    let words = length_at(record, 16);
-    let answer = row_answer(record, &mut cells[0..words]);
-    are_lengths(record) & is_answer(record, answer) & are_same(&cells, &after)
+fn levels_of(record: &[u8; 492]) -> [u8; 64] {
+    array::from_fn(|k| record[20 + k])
 }
 
-fn numbers_of(record: &Record) -> RowNumbers {
+fn numbers_of(record: &[u8; 492]) -> RowNumbers {
     RowNumbers {
         sharpness: record[0],
         bit_depth: record[1],
         sub_x: record[2],
         sub_y: record[3],
-        mi_cols: wide16_at(record, 4),
-        mi_rows: wide16_at(record, 6),
-        mi_row: wide16_at(record, 8),
+        mi_cols: size16_at(record, 4),
+        mi_rows: size16_at(record, 6),
+        mi_row: size16_at(record, 8),
     }
 }
 
-fn records_at(record: &Record, start: usize) -> [CellRecord; ENTRIES]
-    requires { start < 3000 }
+fn words_at(record: &[u8; 492], start: usize) -> [u32; ENTRIES]
+    requires { start + 96 ≤ 492 }
 {
-    let mut out = [record_of(0); ENTRIES];
-    for k in 0..ENTRIES {
-        out[k] = record_of(unsigned32_at(record, start + 4 * k));
-    }
-    out
+    array::from_fn(|k| u32_at(record, start + 4 * k))
+}
+
+// A refusal leaves the words, and so does an accepted row those behind its cells: all are compared.
+pub(crate) fn is_equal(record: &[u8; 492]) -> bool {
+    let references = references_of(record);
+    let p = numbers_of(record);
+    let mut cells = words_at(record, 300);
+    let lent = length_at(record, 16);
+    let answer = row_cells(
+        lists_of(record, &references),
+        &levels_of(record),
+        p.sharpness,
+        p.bit_depth,
+        p.sub_x,
+        p.sub_y,
+        p.mi_cols,
+        p.mi_rows,
+        p.mi_row,
+        &mut cells[..lent],
+    );
+    are_lengths(record)
+        & is_answer(answer, record[17], usize::from(record[18]))
+        & (cells == words_at(record, 396))
 }
 
 // A word before may have zero bits set, which no record holds: they are not compared. The row sets none.
-fn are_records(record: &Record, records: [CellRecord; ENTRIES]) -> bool {
-    for k in 0..ENTRIES {
-        let after = unsigned32_at(record, 396 + 4 * k);
-        if word_of(records[k]) != after / 4096 * 4096 {
-            return false;
-        }
-    }
-    true
-}
-
-fn row_made(record: &Record) -> RowMade {
-    let ref_frames = references_of(record);
-    let levels = levels_of(record);
-    let references = length_at(record, 13);
-    row_front_unchecked(
-        list_at(record, 84, length_at(record, 10)),
-        list_at(record, 108, length_at(record, 11)),
-        list_at(record, 132, length_at(record, 12)),
-        &ref_frames[0..references],
-        list_at(record, 252, length_at(record, 14)),
-        list_at(record, 276, length_at(record, 15)),
-        &levels,
-        numbers_of(record),
-        records_at(record, 300),
-        length_at(record, 16),
-    )
+fn are_records(record: &[u8; 492], records: [CellRecord; ENTRIES]) -> bool {
+    let after = words_at(record, 396);
+    records
+        .iter()
+        .zip(&after)
+        .all(|(made, word)| word_of(*made) == *word / 4096 * 4096)
 }
 
 // As is_equal, with cell records in place of words.
-pub(crate) fn is_equal_in_records(record: &Record) -> bool {
-    let made = row_made(record);
-    let answer = made.answer;
-    let records = made.records;
-    are_lengths(record) & is_answer(record, answer) & are_records(record, records)
+pub(crate) fn is_equal_in_records(record: &[u8; 492]) -> bool {
+    let references = references_of(record);
+    let (answer, records) = row_front_unchecked(
+        lists_of(record, &references),
+        &levels_of(record),
+        numbers_of(record),
+        words_at(record, 300).map(record_of),
+        length_at(record, 16),
+    );
+    are_lengths(record)
+        & is_answer(answer, record[17], usize::from(record[18]))
+        & are_records(record, records)
 }
