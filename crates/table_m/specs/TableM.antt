@@ -1,12 +1,12 @@
 -- Table M of document 01: worked examples, each with what the definitions give for it. One list, and one computed result.
 -- Assumes nothing.
-use Rattle.std.specs.Prelude.{◌≡◌, refl, Bool, true, false, List, [], ◌∷◌, ◌++◌, map, ℕ, pos, replicate, set, take, drop}
+use Rattle.std.specs.Prelude.{◌≡◌, refl, Bool, true, false, cond, Some, None, List, [], ◌∷◌, ◌++◌, map, ℕ, pos, replicate, set, take, drop}
 use Rattle.base.specs.Depth.{supported}
 use Rattle.base.specs.Filled.{filled}
 use Rattle.base.specs.First.{found, first_from}
 use Rattle.base.specs.Notation.{clip3}
 use Rattle.base.specs.Outcome.{Outcome, accepted, refused, held}
-use Rattle.frame_header.specs.Params.{seg_feature_active, feature_at, resolved_delta, resolved_from, absent}
+use Rattle.frame_header.specs.Params.{active_feature, seg_feature_active, feature_at, resolved_from, absent}
 use Rattle.levels.specs.Levels.{clipped_level, lvl_seg, intra_lvl, inter_lvl, entry_lvl, segment_lvl, place_lvl, frame_init, level_table}
 use Rattle.base.specs.Width.{U16}
 use Rattle.line.specs.Line.{line}
@@ -43,7 +43,7 @@ header =
 -- no segment has a level of its own, or segment 0 has the absolute level 20
 segments : Bool → SegmentationParams
 segments on =
-    record { enabled = on; abs_or_delta_update = on; feature_enabled = set (replicate 32 false) (feature_at 0 1) on; feature_data = set (replicate 32 (pos 0)) (feature_at 0 1) (pos 20) }
+    record { enabled = on; abs_or_delta_update = on; features = set (replicate 32 None) (feature_at 0 1) (cond on (Some (pos 20)) None) }
 
 -- the first entries of segment 0: intra, last, golden, altref, each for mode types 0 and 1
 levels : Bool → ℕ → List ℕ
@@ -79,5 +79,5 @@ rows =
     ∷ []
 
 pub table_m : map (λ (r : Row). r.given) rows ≡ map (λ (r : Row). r.stated) rows
-unfolding rows strength strength_for strength_of limit_of levels header segments level_table frame_init filled place_lvl segment_lvl entry_lvl intra_lvl inter_lvl lvl_seg clipped_level clip3 seg_feature_active resolved_from resolved_delta step filtered line supported found first_from sample_filtering filter_mask hev_mask flat_mask flat_mask2 flat_at narrow_filter c sample wide_filter smoothed sum_to
+unfolding rows strength strength_for strength_of limit_of levels header segments level_table frame_init filled place_lvl segment_lvl entry_lvl intra_lvl inter_lvl lvl_seg clipped_level clip3 active_feature seg_feature_active resolved_from step filtered line supported found first_from sample_filtering filter_mask hev_mask flat_mask flat_mask2 flat_at narrow_filter c sample wide_filter smoothed sum_to
 table_m = refl
