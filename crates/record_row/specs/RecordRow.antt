@@ -1,11 +1,9 @@
 -- The row's cells as records, in a list that the caller lends.
 -- Assumes nothing.
-use Rattle.std.specs.Prelude.{◌≡◌, List, ℕ, zero, suc, ◌≤◌, min, length, get_or, set, replicate}
+use Rattle.std.specs.Prelude.{List, ℕ, zero, suc, min, length, get_or, set, replicate}
 use Rattle.base.specs.Outcome.{Outcome, accepted, refused}
 use Rattle.geometry.specs.Frame.{cells_from}
 use Rattle.row.specs.Row.{ModeInfo, row}
-use Rattle.row.specs.declared.RowAnswer.{RowAnswer}
-use Rattle.row.specs.declared.RowAnswer.TheVariants.{Done, Sharpness, Depth, Subsampling, FrameSize, Base, Level, Short, Block}
 use Rattle.record_row.specs.declared.RowNumbers.{RowNumbers}
 use Rattle.cell_records.specs.CellRecord.{record_of}
 use Rattle.cell_records.specs.declared.CellRecord.{CellRecord}
@@ -34,19 +32,3 @@ zeros n = replicate (min n 65536) 0
 -- the row, whose cells come first in the list of records; what stands behind them is left
 unfoldable pub row_records : ModeInfo → (levels : List ℕ) → RowNumbers → List CellRecord → Outcome (List CellRecord)
 row_records m levels p records = as_records (row_with m levels p (zeros (length records))) (cells_in p) records
-
--- how many words the row made
-abbrev pub made_of : RowAnswer → RowNumbers → ℕ
-made_of Done p = cells_in p
-made_of Sharpness p = 0
-made_of Depth p = 0
-made_of Subsampling p = 0
-made_of FrameSize p = 0
-made_of Base p = 0
-made_of (Level k) p = 0
-made_of Short p = 0
-made_of (Block k) p = 0
-
--- where the row was not refused, its numbers passed the tests
-abbrev pub Fits : RowAnswer → RowNumbers → Type 0
-Fits answer p = answer ≡ Done → (p.mi_row ≤ p.mi_rows) × (p.mi_cols ≤ 8192)

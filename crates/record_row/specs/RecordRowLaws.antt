@@ -1,21 +1,22 @@
 -- Laws of the row's records: what a row that was not refused has, and the row's answer said of the records.
 -- Assumes nothing.
 use Rattle.std.specs.Prelude.{◌≡◌, refl, Bool, true, false, not, List, ◌∷◌, ℕ, zero, suc, ◌≤◌, ◌<◌, min, eqb, ltb, length, take, replicate}
-use Rattle.std.proofs.Common.{sym, ◌∙◌, ap, subst, le_of_suc-le-suc, not-suc-le-zero, arith, lit<, length-set, get_or-take, ltb-false}
+use Rattle.std.proofs.Common.{◌∙◌, ap, subst, le_of_suc-le-suc, not-suc-le-zero, arith, lit<, length-set, get_or-take, ltb-false}
 use Rattle.std.proofs.lemmas.List.{length-replicate}
 use Rattle.std.proofs.lemmas.Bool.{not-false}
 use Rattle.base.specs.Depth.{supported}
+use Rattle.base.specs.Fault.{number_of, place_of}
 use Rattle.base.specs.Filled.{filled}
+use Rattle.base.specs.declared.fault.Fault.{Fault}
+use Rattle.base.specs.declared.fault.Fault.TheVariants.{Sharpness, Depth, Subsampling, FrameSize, Row, Level, Short, Block, PlaneOrPass, Column, Cell, Window, Sample, NoLevel, FilterSize, Position, Header}
 use Rattle.base.specs.First.{first, found}
 use Rattle.base.specs.Outcome.{Outcome, accepted, refused, refuse, Returned, returned, held, Answers}
 use Rattle.geometry.specs.Frame.{bad_subsampling, bad_frame_size, bad_start}
 use Rattle.geometry.specs.FrameLaws.{sized, started}
 use Rattle.cell_records.specs.declared.CellRecord.{CellRecord}
-use Rattle.row.specs.Row.{ModeInfo, word_at, bad_level, too_short, bad_at, row, returned_of}
+use Rattle.row.specs.Row.{ModeInfo, word_at, bad_level, too_short, bad_at, row}
 use Rattle.row.specs.RowLaws.{long, row_filled}
-use Rattle.row.specs.declared.RowAnswer.{RowAnswer}
-use Rattle.row.specs.declared.RowAnswer.TheVariants.{Done, Sharpness, Depth, Subsampling, FrameSize, Base, Level, Short, Block}
-use Rattle.record_row.specs.RecordRow.{stored, row_with, cells_in, as_records, zeros, row_records, made_of, Fits}
+use Rattle.record_row.specs.RecordRow.{stored, row_with, cells_in, as_records}
 use Rattle.record_row.specs.declared.RowNumbers.{RowNumbers}
 
 -- ---- stored records
@@ -71,59 +72,52 @@ made m levels p ws e =
     }
 
 -- ---- the answer, of the records
+-- every fault has a number above 0
+numbered : (e : Fault) → 0 < number_of e
+numbered Sharpness = lit< tt
+numbered Depth = lit< tt
+numbered Subsampling = lit< tt
+numbered FrameSize = lit< tt
+numbered Row = lit< tt
+numbered (Level k) = lit< tt
+numbered Short = lit< tt
+numbered (Block k) = lit< tt
+numbered PlaneOrPass = lit< tt
+numbered Column = lit< tt
+numbered (Cell k) = lit< tt
+numbered Window = lit< tt
+numbered (Sample k) = lit< tt
+numbered (NoLevel k) = lit< tt
+numbered FilterSize = lit< tt
+numbered Position = lit< tt
+numbered Header = lit< tt
+
+abbrev pub accepted_as : Returned
+accepted_as = record { number = 0; place = 0 }
+
 module _ (m : ModeInfo) (levels : List ℕ) (p : RowNumbers) (ws : List ℕ) where
-  -- what the row in words says of its numbers and its count
-  pub fits : (r : RowAnswer) → returned_of r ≡ returned (row_with m levels p ws) → Fits r p
-  fits r e d =
-      let s = made m levels p ws (ap (λ (a : RowAnswer). (returned_of a).number) (sym d) ∙ ap (λ (t : Returned). t.number) e) in
-      (s.starts, s.narrow)
-
-  pub count_small : (r : RowAnswer) → returned_of r ≡ returned (row_with m levels p ws) → made_of r p ≤ length ws
-  count_small Done e = (made m levels p ws (ap (λ (t : Returned). t.number) e)).lent
-  count_small Sharpness e = omega arith
-  count_small Depth e = omega arith
-  count_small Subsampling e = omega arith
-  count_small FrameSize e = omega arith
-  count_small Base e = omega arith
-  count_small (Level k) e = omega arith
-  count_small Short e = omega arith
-  count_small (Block k) e = omega arith
-
   -- a refusal is passed on, and nothing is stored
-  passed_on : (o : Outcome (List ℕ)) (n : ℕ) (rs : List CellRecord) (zs : List ℕ) (r : Returned) → 0 < r.number → r ≡ returned o → Answers (as_records o n rs) r rs (stored zs 0 rs)
-  passed_on (accepted l) n rs zs r h e = absurd (omega (arith, h, ap (λ (t : Returned). t.number) e))
-  passed_on (refused number place) n rs zs r h e = (e, stored_none zs rs)
+  passed_on : (o : Outcome (List ℕ)) (n : ℕ) (rs : List CellRecord) (r : Returned) → 0 < r.number → r ≡ returned o → Answers (as_records o n rs) r rs rs
+  passed_on (accepted l) n rs r h e = absurd (omega (arith, h, ap (λ (t : Returned). t.number) e))
+  passed_on (refused number place) n rs r h e = (e, refl)
 
-  in_part : (o : Outcome (List ℕ)) (l : List ℕ) (n j : ℕ) (rs : List CellRecord) (zs : List ℕ) → o ≡ accepted l → n ≤ j → take j zs ≡ held o ws → Answers (as_records o n rs) (returned_of Done) rs (stored zs n rs)
+  in_part : (o : Outcome (List ℕ)) (l : List ℕ) (n j : ℕ) (rs : List CellRecord) (zs : List ℕ) → o ≡ accepted l → n ≤ j → take j zs ≡ held o ws → Answers (as_records o n rs) accepted_as rs (stored zs n rs)
   in_part (accepted k) l n j rs zs e h t = (refl, stored_part j zs n rs h ∙ ap (λ (s : List ℕ). stored s n rs) t)
-  in_part (refused number place) l n j rs zs e h t = absurd (subst Refusal (sym (ap kind e)) tt)
-    where
-      kind : Outcome (List ℕ) → Bool
-      kind (accepted k) = true
-      kind (refused a b) = false
+  in_part (refused number place) l n j rs zs e h t = absurd cc
 
-      Refusal : Bool → Type 0
-      Refusal true = Unit {0}
-      Refusal false = ⊥
+  pub kept : (e : Fault) (rs : List CellRecord) → record { number = number_of e; place = place_of e } ≡ returned (row_with m levels p ws)
+      → Answers (as_records (row_with m levels p ws) (cells_in p) rs) (record { number = number_of e; place = place_of e }) rs rs
+  kept e rs s = passed_on (row_with m levels p ws) (cells_in p) rs _ (numbered e) s
 
-  answered : (j : ℕ) (rs : List CellRecord) (zs : List ℕ) (r : RowAnswer) → length ws ≡ j → Answers (row_with m levels p ws) (returned_of r) ws (take j zs)
-      → Answers (as_records (row_with m levels p ws) (cells_in p) rs) (returned_of r) rs (stored zs (made_of r p) rs)
-  answered j rs zs Done len s =
-      let d = made m levels p ws (ap (λ (t : Returned). t.number) s.0) in
+  pub passed_row : accepted_as ≡ returned (row_with m levels p ws) → Made m levels p ws
+  passed_row e = made m levels p ws (ap (λ (t : Returned). t.number) e)
+
+  pub replaced : (j : ℕ) (rs : List CellRecord) (zs : List ℕ) → length ws ≡ j → Answers (row_with m levels p ws) accepted_as ws (take j zs)
+      → Answers (as_records (row_with m levels p ws) (cells_in p) rs) accepted_as rs (stored zs (cells_in p) rs)
+  replaced j rs zs len s =
+      let d = passed_row s.0 in
       in_part (row_with m levels p ws) _ (cells_in p) j rs zs d.result (subst (λ (k : ℕ). cells_in p ≤ k) len d.lent) s.1
-  answered j rs zs Sharpness len s = passed_on (row_with m levels p ws) (cells_in p) rs zs _ (lit< tt) s.0
-  answered j rs zs Depth len s = passed_on (row_with m levels p ws) (cells_in p) rs zs _ (lit< tt) s.0
-  answered j rs zs Subsampling len s = passed_on (row_with m levels p ws) (cells_in p) rs zs _ (lit< tt) s.0
-  answered j rs zs FrameSize len s = passed_on (row_with m levels p ws) (cells_in p) rs zs _ (lit< tt) s.0
-  answered j rs zs Base len s = passed_on (row_with m levels p ws) (cells_in p) rs zs _ (lit< tt) s.0
-  answered j rs zs (Level k) len s = passed_on (row_with m levels p ws) (cells_in p) rs zs _ (lit< tt) s.0
-  answered j rs zs Short len s = passed_on (row_with m levels p ws) (cells_in p) rs zs _ (lit< tt) s.0
-  answered j rs zs (Block k) len s = passed_on (row_with m levels p ws) (cells_in p) rs zs _ (lit< tt) s.0
 
--- the row over the words that the records are lent
-pub row_answered : (m : ModeInfo) (levels : List ℕ) (p : RowNumbers) (rs : List CellRecord) (ws zs : List ℕ) (r : RowAnswer) → ws ≡ zeros (length rs) → Answers (row_with m levels p ws) (returned_of r) ws (take (min (length rs) 65536) zs)
-    → Answers (row_records m levels p rs) (returned_of r) rs (stored zs (made_of r p) rs)
-unfolding row_records
-row_answered m levels p rs ws zs r e s =
-    subst (λ (l : List ℕ). Answers (as_records (row_with m levels p l) (cells_in p) rs) (returned_of r) rs (stored zs (made_of r p) rs)) e
-    (answered m levels p ws (min (length rs) 65536) rs zs r (ap length e ∙ length-replicate {A = ℕ} (min (length rs) 65536) 0) s)
+-- the words that the records are lent
+pub lent_words : (n k : ℕ) → take {A = ℕ} (min n (length {A = ℕ} (replicate k 0))) (replicate k 0) ≡ replicate (min n k) 0
+lent_words n k = rw (length-replicate {A = ℕ} k 0) (take-replicate (min n k) k (omega arith))

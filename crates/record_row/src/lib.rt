@@ -1,42 +1,25 @@
 // The row's cells as records, in a list that the caller lends.
 #![tactic(auto)]
 
-ghost use Rattle.std.specs.Prelude.{◌≡◌, ◌<◌, ◌≤◌, min, length, get_or, set, take};
-ghost use Rattle.cell_records.specs.CellRecord.{record_of};
+ghost use Rattle.std.specs.Prelude.{◌≡◌, ◌≤◌, min, length, take};
+ghost use Rattle.base.specs.Fault.{returned_of};
 ghost use Rattle.base.specs.Outcome.{Answers};
-ghost use Rattle.row.specs.Row.{mode_info, returned_of};
-ghost use Rattle.record_row.specs.RecordRow.{stored, row_with, row_records, made_of, Fits};
+ghost use Rattle.row.specs.RowLists.{lists_of};
+ghost use Rattle.record_row.specs.RecordRow.{stored, row_with, row_records};
 
+use base::fault::Fault;
 use cell_records::{CellRecord, record_of};
 use geometry::cell_count_unchecked;
-use row::{RowAnswer, row_cells};
-
-// The record of word k.
-fn record_at_unchecked(words: &[u32], k: usize) -> CellRecord
-    requires { k < length words.now }
-    ensures { result ≡ record_of (get_or words.now k 0) }
-{
-    record_of(words[k])
-}
-
-// Record i becomes c.
-fn put_record(records: &mut [CellRecord], i: usize, c: CellRecord)
-    requires { i < length records.old }
-    ensures { records.new ≡ set records.old i c }
-{
-    records[i] = c;
-}
+use row::mode_info::ModeInfoLists;
+use row::row_cells;
 
 // The first count records become those of the words; what stands behind is left.
 fn store_records_unchecked(words: &[u32], count: usize, records: &mut [CellRecord])
     requires { (count ≤ length words.now) × (count ≤ length records.old) }
     ensures { records.new ≡ stored words.now count records.old }
 {
-    let mut k = 0;
-    while k < count {
-        let c = record_at_unchecked(words, k);
-        put_record(&mut *records, k, c);
-        k = k + 1;
+    for k in 0..count {
+        records[k] = record_of(words[k]);
     }
 }
 
@@ -60,36 +43,19 @@ pub struct RowNumbers {
     pub mi_row: usize,
 }
 
-// The lesser of two numbers.
-fn lesser(a: usize, b: usize) -> usize
-    ensures { result ≡ min a b }
-{
-    if a < b { a } else { b }
-}
-
 // The row in the first words, as many as records are lent.
 fn row_words(
-    mi_sizes: &[u8],
-    tx_sizes: &[u8],
-    skips: &[u8],
-    ref_frames: &[i32],
-    y_modes: &[u8],
-    segment_ids: &[u8],
+    lists: ModeInfoLists,
     levels: &[u8; 64],
     p: RowNumbers,
     lent: usize,
     words: &mut [u32],
-) -> RowAnswer
-    ensures { Answers (row_with (mode_info mi_sizes.now tx_sizes.now skips.now ref_frames.now y_modes.now segment_ids.now) levels.now p (take (min lent (length words.old)) words.old)) (returned_of result) (take (min lent (length words.old)) words.old) (take (min lent (length words.old)) words.new) }
+) -> Result<(), Fault>
+    ensures { Answers (row_with (lists_of lists.entry) levels.now p (take (min lent (length words.old)) words.old)) (returned_of result) (take (min lent (length words.old)) words.old) (take (min lent (length words.old)) words.new) }
 {
-    let n = lesser(lent, words.len());
+    let n = lent.min(words.len());
     row_cells(
-        mi_sizes,
-        tx_sizes,
-        skips,
-        ref_frames,
-        y_modes,
-        segment_ids,
+        lists,
         levels,
         p.sharpness,
         p.bit_depth,
@@ -102,46 +68,18 @@ fn row_words(
     )
 }
 
-// How many words the row made: its cells, or none where it was refused.
-fn made_unchecked(answer: RowAnswer, p: RowNumbers) -> usize
-    requires { Fits answer p }
-    ensures { result ≡ made_of answer p }
-{
-    match answer {
-        RowAnswer::Done => cell_count_unchecked(p.mi_row, p.mi_cols, p.mi_rows),
-        _ => 0,
-    }
-}
-
 // Takes any lists and any numbers. A refusal leaves every record as it was.
 pub fn row_records(
-    mi_sizes: &[u8],
-    tx_sizes: &[u8],
-    skips: &[u8],
-    ref_frames: &[i32],
-    y_modes: &[u8],
-    segment_ids: &[u8],
+    lists: ModeInfoLists,
     levels: &[u8; 64],
     numbers: RowNumbers,
     records: &mut [CellRecord],
-) -> RowAnswer
-    ensures { Answers (row_records (mode_info mi_sizes.now tx_sizes.now skips.now ref_frames.now y_modes.now segment_ids.now) levels.now numbers records.old) (returned_of result) records.old records.new }
+) -> Result<(), Fault>
+    ensures { Answers (row_records (lists_of lists.entry) levels.now numbers records.old) (returned_of result) records.old records.new }
 {
-    let lent = records.len();
-    let mut words = [0u32; 65536];
-    let answer = row_words(
-        mi_sizes,
-        tx_sizes,
-        skips,
-        ref_frames,
-        y_modes,
-        segment_ids,
-        levels,
-        numbers,
-        lent,
-        &mut words,
-    );
-    let count = made_unchecked(answer, numbers);
+    let mut words = [0; 65536];
+    row_words(lists, levels, numbers, records.len(), &mut words)?;
+    let count = cell_count_unchecked(numbers.mi_row, numbers.mi_cols, numbers.mi_rows);
     store_records_unchecked(&words, count, records);
-    answer
+    Ok(())
 }

@@ -1,47 +1,66 @@
-use Rattle.std.proofs.Common.{◌≡◌, ℕ, ◌≤◌, min, List, length, take, replicate, ap, arith, refl, subst, sym, ◌∙◌}
+use Rattle.std.proofs.Common.{◌≡◌, refl, ap, subst, ◌∙◌, ℕ, ◌≤◌, min, List, length, take, replicate, arith, length-take-le}
 use Rattle.std.proofs.lemmas.List.{length-replicate}
-use Rattle.base.specs.Outcome.{Answers}
+use Rattle.std.proofs.lemmas.Result.{err_from_is_err_and}
+use Rattle.base.specs.Fault.{number_of, place_of}
+use Rattle.base.specs.Outcome.{Answers, Returned}
+use Rattle.base.specs.declared.fault.Fault.{Fault}
 use Rattle.cell_records.specs.declared.CellRecord.{CellRecord}
-use Rattle.row.specs.Row.{ModeInfo, returned_of}
-use Rattle.row.specs.declared.RowAnswer.{RowAnswer}
+use Rattle.row.specs.Row.{ModeInfo}
 use Rattle.record_row.specs.declared.RowNumbers.{RowNumbers}
-use Rattle.record_row.specs.RecordRow.{stored, row_with, row_records, made_of}
-use Rattle.record_row.specs.RecordRowLaws.{take-replicate, fits, count_small, row_answered}
+use Rattle.record_row.specs.RecordRow.{stored, row_with, cells_in, as_records, zeros, row_records}
+use Rattle.record_row.specs.RecordRowLaws.{accepted_as, kept, passed_row, replaced, lent_words}
 use Rattle.record_row.proofs.row_records.Goals as goal
 
--- what `row_words` says of the front of k words 0
-abbrev Said : ModeInfo → List ℕ → RowNumbers → RowAnswer → (lent k : ℕ) (after : List ℕ) → Type 0
-Said m levels p r lent k after =
-    let words : List ℕ = replicate k 0 in
-    let n = min lent (length words) in
-    Answers (row_with m levels p (take n words)) (returned_of r) (take n words) (take n after)
+-- the front of k words 0, as many as records are lent
+abbrev front : (lent k : ℕ) → List ℕ
+front lent k = take (min lent (length {A = ℕ} (replicate k 0))) (replicate k 0)
 
-cut : (n k : ℕ) → take {A = ℕ} (min n (length {A = ℕ} (replicate k 0))) (replicate k 0) ≡ replicate (min n k) 0
-cut n k = rw (length-replicate {A = ℕ} k 0) (take-replicate (min n k) k (omega arith))
+front_long : (lent k : ℕ) → length (front lent k) ≡ min lent (length {A = ℕ} (replicate k 0))
+front_long lent k = length-take-le _ _ (omega arith)
 
--- the row made no more words than there are in that front
-few : (m : ModeInfo) (levels : List ℕ) (p : RowNumbers) (r : RowAnswer) (n k : ℕ) (after : List ℕ) → Said m levels p r n k after → made_of r p ≤ min n k
-few m levels p r n k after s =
-    subst (λ (j : ℕ). made_of r p ≤ j) (ap length (cut n k) ∙ length-replicate {A = ℕ} (min n k) 0) (count_small m levels p _ r s.0)
+module _ (m : ModeInfo) (levels : List ℕ) (p : RowNumbers) (records : List CellRecord) (k : ℕ) (after : List ℕ) where
+  -- what `row_words` says of it
+  abbrev Said : Returned → Type 0
+  Said r =
+      Answers (row_with m levels p (front (length records) k)) r (front (length records) k) (take (min (length records) (length {A = ℕ} (replicate k 0))) after)
 
-said : (m : ModeInfo) (levels : List ℕ) (p : RowNumbers) (r : RowAnswer) (records : List CellRecord) (k : ℕ) (after : List ℕ) → k ≡ 65536 → Said m levels p r (length records) k after
-    → Answers (row_records m levels p records) (returned_of r) records (stored after (made_of r p) records)
-said m levels p r records k after e s =
-    let n = length records in
-    let long : length {A = ℕ} (replicate k 0) ≡ 65536 = length-replicate k 0 ∙ e in
-    row_answered m levels p records _ after r (cut n k ∙ ap (λ (j : ℕ). replicate (min n j) 0) e) (s.0, ap (λ (j : ℕ). take (min n j) after) (sym long) ∙ s.1)
+  few : Said accepted_as → cells_in p ≤ min (length records) k
+  few s =
+      let d = passed_row m levels p _ s.0 in
+      rw (lent_words (length records) k, length-replicate {A = ℕ} (min (length records) k) 0) at d.lent
 
-pub made_unchecked-count-requires : goal.made_unchecked-count-requires
-made_unchecked-count-requires c = fits _ _ c.args.numbers _ c.row_words-answer.result c.row_words-answer.ensures.0
+  module _ (e : k ≡ 65536) where
+    words_is : front (length records) k ≡ zeros (length records)
+    words_is = lent_words (length records) k ∙ ap (λ (j : ℕ). replicate (min (length records) j) 0) e
+
+    refusal : (f : Fault) → Said (record { number = number_of f; place = place_of f }) → Answers (row_records m levels p records) (record { number = number_of f; place = place_of f }) records records
+    unfolding row_records
+    refusal f s =
+        subst (λ (l : List ℕ). Answers (as_records (row_with m levels p l) (cells_in p) records) (record { number = number_of f; place = place_of f }) records records) words_is
+        (kept m levels p _ f records s.0)
+
+    row_stored : Said accepted_as → Answers (row_records m levels p records) accepted_as records (stored after (cells_in p) records)
+    unfolding row_records
+    row_stored s =
+        subst (λ (l : List ℕ). Answers (as_records (row_with m levels p l) (cells_in p) records) accepted_as records (stored after (cells_in p) records)) words_is
+        (replaced m levels p _ _ records after (front_long (length records) k) s)
+
+pub returns-in_err-row_words : goal.returns-in_err-row_words
+returns-in_err-row_words c =
+    let q = err_from_is_err_and c.from_residual.result c.from_residual.ensures.1 in
+    rw (q.1, q.2) (refusal _ _ c.args.numbers c.args.records.now 65536 _ refl c.in_err-row_words.field-0.0 c.in_err-row_words.ensures)
+
+pub cell_count_unchecked-count-requires : goal.cell_count_unchecked-count-requires
+cell_count_unchecked-count-requires c =
+    let d = passed_row _ _ c.args.numbers _ c.in_ok-row_words.ensures.0 in (d.starts, d.narrow)
 
 pub store_records_unchecked-requires : goal.store_records_unchecked-requires
 store_records_unchecked-requires c =
-    let made = few _ _ c.args.numbers c.row_words-answer.result (length c.args.records.now) 65536 c.row_words-answer.new.words c.row_words-answer.ensures in
-    let long : length c.row_words-answer.new.words ≡ 65536 = c.row_words-answer.auto.words ∙ length-replicate {A = ℕ} 65536 0 in
-    (omega (arith, c.made_unchecked-count.ensures), omega (arith, c.made_unchecked-count.ensures))
+    let made = few _ _ c.args.numbers c.args.records.now 65536 _ c.in_ok-row_words.ensures in
+    let long : length c.row_words.new.words ≡ 65536 = c.row_words.auto.words ∙ length-replicate {A = ℕ} 65536 0 in
+    (omega (arith, c.cell_count_unchecked-count.ensures), omega (arith, c.cell_count_unchecked-count.ensures))
 
 pub returns : goal.returns
 returns c =
-    let a = c.row_words-answer in
-    rw (c.store_records_unchecked.ensures, c.made_unchecked-count.ensures)
-    (said _ _ c.args.numbers a.result c.args.records.now 65536 a.new.words refl a.ensures)
+    rw (c.store_records_unchecked.ensures, c.cell_count_unchecked-count.ensures)
+    (row_stored _ _ c.args.numbers c.args.records.now 65536 _ refl c.in_ok-row_words.ensures)
