@@ -1,6 +1,6 @@
 -- How long the text of a run sheet is: at least 1 and at most 2,048 bytes, whatever the sheet holds.
 -- Assumes nothing.
-use Rattle.std.specs.Prelude.{◌≡◌, refl, Bool, true, false, not, ◌||◌, ℕ, ◌-◌, ◌*◌, ◌/◌, ◌≤◌, ◌<◌, ltb, length}
+use Rattle.std.specs.Prelude.{◌≡◌, refl, Bool, true, false, not, ◌||◌, ℕ, ◌-◌, ◌*◌, ◌/◌, ◌≤◌, ◌<◌, ltb, length, Option, Some, None}
 use mathlib.Core.List.{List, Memᴰ}
 use Rattle.std.proofs.Common.{mul-le-mul_right, arith, ltb-true, length-append}
 use Rattle.base.specs.Depth.{supported}
@@ -21,7 +21,6 @@ use Rattle.sheet_header.specs.SheetHeader.{header_of, bad_header}
 use Rattle.sheet_header.specs.declared.SheetHeader.{SheetHeader}
 use Rattle.sheet.specs.Sheet.{sheet_setting, cells_runs, cells_of, sheet_runs, printed, run_sheet}
 use Rattle.sheet.specs.SheetAnswers.{answer_of}
-use Rattle.sheet.specs.declared.SheetAnswer.TheVariants.{Written}
 
 -- ---- what test 17 leaves: a row of at most 8,192 cells
 
@@ -98,7 +97,7 @@ sheet_some bytes = by (sheet_runs bytes)
     by (refused number place) = omega arith
 
 -- what is written lies within the buffer
-pub answer_fits : (bytes out : List ℕ) (count : ℕ) → Written count ≡ answer_of bytes out → count ≤ length out
+pub answer_fits : (bytes out : List ℕ) (count : ℕ) → Some count ≡ answer_of bytes out → count ≤ length out
 unfolding answer_of
 answer_fits bytes out count e = by (ltb 2047 (length out)) refl
   where

@@ -1,9 +1,12 @@
 -- Laws of a sheet, test by test, as the code makes them.
 -- Assumes nothing.
 use Rattle.std.specs.Prelude.{◌≡◌, Bool, true, false, List, [], ℕ, ◌-◌, ◌*◌, ◌/◌, ◌≤◌, ◌<◌, ltb, length}
-use Rattle.std.proofs.Common.{lt-ltb, le-ltb}
+use Rattle.std.proofs.Common.{lt-ltb, le-ltb, arith}
+use Rattle.base.specs.Fault.{number_of}
 use Rattle.base.specs.First.{found, first}
 use Rattle.base.specs.Outcome.{Outcome, accepted, refused}
+use Rattle.base.specs.declared.fault.Fault.{Fault}
+use Rattle.base.specs.declared.fault.Fault.TheVariants.{Sharpness, Depth, Subsampling, FrameSize, Row, Level, Short, Block, PlaneOrPass, Column, Cell, Window, Sample, NoLevel, FilterSize, Position, Header}
 use Rattle.bad_words.specs.BadWord.{bad_cell}
 use Rattle.decided.specs.Runs.{runs}
 use Rattle.decided.specs.declared.EdgeRun.{EdgeRun}
@@ -61,3 +64,23 @@ module _ (h : SheetHeader) (cells : List ℕ) where
       → cells_runs h cells ≡ accepted (runs (sheet_setting h []).superblock (pass_of h.pass) (ltb 0 h.plane) cells)
   unfolding cells_runs
   cells_good t u = rw (t, u)
+
+-- document 01's numbers have two digits
+pub number_small : (e : Fault) → number_of e < 100
+number_small Sharpness = omega arith
+number_small Depth = omega arith
+number_small Subsampling = omega arith
+number_small FrameSize = omega arith
+number_small Row = omega arith
+number_small (Level k) = omega arith
+number_small Short = omega arith
+number_small (Block k) = omega arith
+number_small PlaneOrPass = omega arith
+number_small Column = omega arith
+number_small (Cell k) = omega arith
+number_small Window = omega arith
+number_small (Sample k) = omega arith
+number_small (NoLevel k) = omega arith
+number_small FilterSize = omega arith
+number_small Position = omega arith
+number_small Header = omega arith

@@ -1,17 +1,16 @@
 // The runs of a pass, printed as they are joined.
 ghost use Rattle.std.specs.Prelude.{◌+◌, ◌≤◌, ◌<◌};
 ghost use Rattle.decided.specs.CellWalk.{key_kept, edge_cells};
-ghost use Rattle.decided.specs.KeyRuns.{key_runs, Keyed};
+ghost use Rattle.decided.specs.KeyRuns.{key_runs};
 ghost use Rattle.decided.specs.RunsLaws.{Small};
 ghost use Rattle.pass_edges.specs.PassEdges.{edge_count};
 ghost use Rattle.text.specs.Text.{Put};
 ghost use Rattle.sheet_lines.specs.SheetLines.{run_lines};
 ghost use Rattle.sheet.specs.PrintLaws.{pending_text, Fed};
 
-use decided::{
-    EdgeRun, joins_unchecked, key_at_unchecked, key_run_unchecked, longer_unchecked, no_run,
-};
+use decided::{EdgeRun, joins_unchecked, key_run_unchecked, longer_unchecked, no_run};
 use geometry::{Pass, Superblock};
+use keys::Keys;
 use pass_edges::edge_count;
 use sheet_lines::print_run_unchecked;
 
@@ -68,38 +67,30 @@ fn print_edge(
     start: Printed,
     s: Superblock,
     pass: Pass,
-    outer: &[u8; 64],
-    inner: &[u8; 64],
+    keys: &Keys,
     edge: usize,
 ) -> Printed
-    requires { (start.at ≤ 16384) × Small start.pending × Keyed outer.now inner.now × (edge < edge_count s pass) }
-    ensures { Fed (edge_cells s pass outer.now inner.now edge 8) start out.old out.new result }
+    requires { (start.at ≤ 16384) × Small start.pending × (edge < edge_count s pass) }
+    ensures { Fed (edge_cells s pass keys.now.outer keys.now.inner edge 8) start out.old out.new result }
 {
     let mut p = start;
     for c in 0..8 {
-        let key = key_at_unchecked(outer, inner, edge, c);
+        let key = keys.key_at_unchecked(edge, c);
         p = print_cell(out, p, s, pass, key, edge, c);
     }
     p
 }
 
-pub(crate) fn print_runs(
-    out: &mut [u8],
-    at: usize,
-    s: Superblock,
-    pass: Pass,
-    outer: &[u8; 64],
-    inner: &[u8; 64],
-) -> usize
-    requires { (at ≤ 1024) × Keyed outer.now inner.now }
-    ensures { Put at (run_lines (key_runs s pass outer.now inner.now)) out.old out.new result }
+pub(crate) fn print_runs(out: &mut [u8], at: usize, s: Superblock, pass: Pass, keys: &Keys) -> usize
+    requires { (at ≤ 1024) }
+    ensures { Put at (run_lines (key_runs s pass keys.now.outer keys.now.inner)) out.old out.new result }
 {
     let mut p = Printed {
         at,
         pending: no_run(),
     };
     for edge in 0..edge_count(s, pass) {
-        p = print_edge(out, p, s, pass, outer, inner, edge);
+        p = print_edge(out, p, s, pass, keys, edge);
     }
     print_pending(out, p.at, p.pending)
 }

@@ -2,7 +2,6 @@
 #![tactic(auto)]
 
 ghost use Rattle.std.specs.Prelude.{◌≡◌, List, ℕ, ◌+◌, ◌*◌, ◌≤◌, ◌<◌, length, get_or};
-ghost use Rattle.base.specs.Filled.{filled};
 ghost use Rattle.word_bytes.specs.WordBytes.{bytes_at, words_of};
 
 fn wide(byte: u8) -> u32
@@ -53,15 +52,5 @@ impl<'a> Words for &'a [u8] {
 
     fn word_unchecked(self, k: usize) -> u32 {
         word_at_unchecked(self, 4 * k)
-    }
-}
-
-// Stores the words of bytes from a place on in the front of a list.
-pub fn words_at_unchecked(bytes: &[u8], at: usize, count: usize, words: &mut [u32])
-    requires { (at + 4 * count ≤ length bytes.now) × (count ≤ length words.old) }
-    ensures { words.new ≡ filled (λ k. bytes_at bytes.now (at + 4 * k) 4) 0 count words.old }
-{
-    for k in 0..count {
-        words[k] = word_at_unchecked(bytes, at + 4 * k);
     }
 }

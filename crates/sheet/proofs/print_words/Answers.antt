@@ -1,45 +1,31 @@
-use Rattle.std.proofs.Common.{◌≡◌, sym, ap, ◌∙◌, ◌*◌, ◌+◌, ◌-◌, ◌/◌, ◌≤◌, arith, length, take, length-take-le}
-use Rattle.base.specs.Filled.{length-filled, take-filled}
-use Rattle.word_bytes.specs.WordBytes.{bytes_at, words_at}
+use Rattle.std.proofs.Common.{◌≡◌, List, ℕ, ◌*◌, ◌+◌, ◌-◌, ◌/◌, ◌≤◌, ◌∙◌, ap, arith, length, take, drop}
 use Rattle.sheet_header.specs.SheetHeaderLaws.{header_small}
 use Rattle.sheet.specs.Sheet.{cells_of}
-use Rattle.sheet.specs.SheetFits.{cells_few}
+use Rattle.word_bytes.specs.WordBytes.{words_at, words_of}
+use Rattle.word_bytes.specs.WordBytesLaws.{stretch-length, words_of_stretch}
 use Rattle.sheet.proofs.print_words.Goals as goal
 
-pub words_at_unchecked-requires : goal.words_at_unchecked-requires
-words_at_unchecked-requires c =
-    let n = c.cell_count_unchecked-count in
-    let few : n.result ≤ 8192 = rw n.ensures (cells_few _ _ _ c.requires.3) in
-    let lent : n.result ≤ (length c.args.sheet.now - 8) / 4 = rw n.ensures c.requires.2 in
-    (omega (arith, lent, c.requires.4), few)
+-- the stretch of the cells, and its words
+lent : (bytes : List ℕ) (n : ℕ) → n ≤ (length bytes - 8) / 4 → 8 ≤ length bytes → 8 + 4 * n ≤ length bytes
+lent bytes n h k = omega (arith, h)
 
-pub slice_bounds-words-end : goal.slice_bounds-words-end
-slice_bounds-words-end c =
-    let n = c.cell_count_unchecked-count in
-    let few : n.result ≤ 8192 = rw n.ensures (cells_few _ _ _ c.requires.3) in
-    omega (arith, few, ap length c.words_at_unchecked.ensures ∙ length-filled _ 0 n.result _)
+words : (bytes : List ℕ) (n : ℕ) → 8 + 4 * n ≤ length bytes → words_of (take (8 + 4 * n - 8) (drop 8 bytes)) ≡ words_at bytes 8 n
+words bytes n h = let size : 8 + 4 * n - 8 ≡ 4 * n = omega arith in rw size (words_of_stretch bytes 8 n h)
 
-pub slice_bounds-print_cells-end : goal.slice_bounds-print_cells-end
-slice_bounds-print_cells-end c =
-    let n = c.cell_count_unchecked-count in
-    let few : n.result ≤ 8192 = rw n.ensures (cells_few _ _ _ c.requires.3) in
-    sym (length-take-le _ _ (omega (arith, few, ap length c.words_at_unchecked.ensures ∙ length-filled _ 0 n.result _)))
+count : (bytes : List ℕ) (n : ℕ) → 8 + 4 * n ≤ length bytes → length (take (8 + 4 * n - 8) (drop 8 bytes)) / 4 ≡ n
+count bytes n h = let size : 8 + 4 * n - 8 ≡ 4 * n = omega arith in rw (size, stretch-length bytes 8 n h) (omega arith)
 
 pub print_cells-requires : goal.print_cells-requires
 print_cells-requires c =
+    let bytes = c.args.sheet.now in
     let n = c.cell_count_unchecked-count in
-    let few : n.result ≤ 8192 = rw n.ensures (cells_few _ _ _ c.requires.3) in
-    let lent = length-take-le n.result c.words_at_unchecked.new.words (omega (arith, few, ap length c.words_at_unchecked.ensures ∙ length-filled _ 0 n.result _)) in
-    (rw c.requires.0 (header_small c.args.sheet.now), c.requires.1, omega (arith, lent, n.ensures), c.requires.3)
+    let room = lent bytes n.result (rw n.ensures c.requires.2) c.requires.4 in
+    (rw c.requires.0 (header_small bytes), c.requires.1, omega (arith, count bytes n.result room, n.ensures), c.requires.3)
 
--- the front of the list is the cells
 pub returns : goal.returns
-unfolding words_at
 returns c =
+    let bytes = c.args.sheet.now in
     let n = c.cell_count_unchecked-count in
-    let few : n.result ≤ 8192 = rw n.ensures (cells_few _ _ _ c.requires.3) in
-    let cells : take n.result c.words_at_unchecked.new.words ≡ cells_of c.args.sheet.now =
-    ap (take n.result) c.words_at_unchecked.ensures
-    ∙ take-filled (λ k. bytes_at c.args.sheet.now (8 + 4 * k) 4) n.result _ few
-    ∙ ap (words_at c.args.sheet.now 8) (rw c.requires.0 at n.ensures) in
+    let room = lent bytes n.result (rw n.ensures c.requires.2) c.requires.4 in
+    let cells : words_of (take (8 + 4 * n.result - 8) (drop 8 bytes)) ≡ cells_of bytes = words bytes n.result room ∙ ap (words_at bytes 8) (rw c.requires.0 at n.ensures) in
     rw cells at c.print_cells.ensures

@@ -6,7 +6,7 @@ use lib.ListN.{length}
 use Rattle.sheet.specs.Sheet.{run_sheet}
 use Rattle.sheet.specs.SheetAnswers.{answer_of, text_of}
 use Rattle.sheet.specs.SheetFits.{sheet_fits}
-use Rattle.sheet.specs.declared.SheetAnswer.TheVariants.{Written}
+use Rattle.std.specs.Prelude.{Some}
 use Rattle.text.specs.TextLaws.{written-front}
 use Rattle.sheet.proofs.run_sheet.Goals as goal
 
@@ -17,7 +17,7 @@ returns-then-out-gt2047 c =
     let room = c.if-out-gt2047.true in
     let put = c.print_sheet.ensures in
     rw (lt-ltb 2047 (length a.out.now) room)
-    (ap Written (put.1 ∙ zero-add (length (run_sheet a.sheet.now))), put.0 ∙ written-front (run_sheet a.sheet.now) a.out.now (omega (arith, room, sheet_fits a.sheet.now)))
+    (ap Some (put.1 ∙ zero-add (length (run_sheet a.sheet.now))), put.0 ∙ written-front (run_sheet a.sheet.now) a.out.now (omega (arith, room, sheet_fits a.sheet.now)))
 
 pub returns : goal.returns
 unfolding answer_of text_of

@@ -8,20 +8,20 @@ use Rattle.sheet.proofs.runs.print_edge.Goals as goal
 pub loop-c-init : goal.loop-c-init
 loop-c-init c =
     let a = c.args in
-    (omega arith, fed_none a.start _ (edge_none a.s a.pass a.outer.now a.inner.now a.edge) c.requires.1)
+    (omega arith, fed_none a.start _ (edge_none a.s a.pass a.keys.now.outer a.keys.now.inner a.edge) c.requires.1)
 
 pub key_at_unchecked-key-requires : goal.key_at_unchecked-key-requires
 key_at_unchecked-key-requires c =
-    (c.requires.2, omega (arith, c.requires.3, edge_count_small c.args.s c.args.pass), c.loop-c-test.true)
+    (omega (arith, c.requires.2, edge_count_small c.args.s c.args.pass), c.loop-c-test.true)
 
 pub print_cell-p-requires : goal.print_cell-p-requires
 print_cell-p-requires c =
     let a = c.args in
     let loop = c.loop-c in (
-      omega (arith, edge_near a.s a.pass a.outer.now a.inner.now a.edge loop.c loop.invariant.1),
+      omega (arith, edge_near a.s a.pass a.keys.now.outer a.keys.now.inner a.edge loop.c loop.invariant.1),
       loop.invariant.1.small,
       c.key_at_unchecked-key.ensures.1,
-      c.requires.3,
+      c.requires.2,
       c.loop-c-test.true,
     )
 
@@ -30,7 +30,7 @@ loop-c-preserved c =
     let a = c.args in
     let loop = c.loop-c in (
       omega arith,
-      rw (← edge_next a.s a.pass a.outer.now a.inner.now a.edge loop.c, ← c.key_at_unchecked-key.ensures.0)
+      rw (← edge_next a.s a.pass a.keys.now.outer a.keys.now.inner a.edge loop.c, ← c.key_at_unchecked-key.ensures.0)
           (fed_then loop.invariant.1 c.print_cell-p.ensures),
     )
 
