@@ -18,9 +18,10 @@ pub struct Changed {
 
 // The filter of each lane by its key.
 fn lane_arms(t: &[u8; 256], keys: &[u8; 16], sharpness: u8) -> [u8; 16]
-    requires { (sharpness ≤ 7) × Keys keys.now × (length t.now ≡ 256) }
+    requires { (sharpness ≤ 7) × Keys keys.now }
     ensures { ArmsTo 16 sharpness keys.now t.now result }
 {
+    // A loop: of array::from_fn the proof that each call sees the same table did not close.
     let mut arms = [0u8; 16];
     for l in 0..16 {
         arms[l] = lane_arm_unchecked(lane_at_unchecked(t, l), keys[l], sharpness);
@@ -28,13 +29,13 @@ fn lane_arms(t: &[u8; 256], keys: &[u8; 16], sharpness: u8) -> [u8; 16]
     arms
 }
 
-// Whether a lane gets the filter arm.
+// Whether a lane gets the filter arm. All are looked at, since a loop that could end early would not vectorise.
 fn any_arm(arms: &[u8; 16], arm: u8) -> bool
     ensures { result ≡ has_arm arms.now arm }
 {
     let mut on = false;
-    for l in 0..16 {
-        on = on | (arms[l] == arm);
+    for a in arms {
+        on |= *a == arm;
     }
     on
 }

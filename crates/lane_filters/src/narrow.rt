@@ -1,5 +1,6 @@
 // The narrow filter (8.8.5.4) on numbers without a sign: each value is raised by half its range, so that 16 bits are enough
-// and a subtraction that stops at 0 clips from below. `one` is the scale of the depth.
+// and a subtraction that stops at 0 clips from below. `one` is the scale of the depth. Bytes have a narrow filter of their
+// own: a byte ends where their range does, so that they need no cap and stay in 8 bits.
 ghost use Rattle.std.specs.Prelude.{◌≡◌, true, ◌-◌, ◌*◌, ◌≤◌, ◌<◌, min};
 ghost use Rattle.base.specs.Depth.{supported};
 ghost use Rattle.line.specs.NarrowFilter.{narrow_filter};

@@ -30,7 +30,7 @@ fn any_mask(t: &[u16; 256], m: usize, n: u16, depth: u8, limit: u8, blimit: u8) 
     let mut on = false;
     for l in 0..m {
         let a = lane_at_unchecked(t, l);
-        on = on | (lane_mask_unchecked(a, depth, limit, blimit) & ((l as u16) < n));
+        on |= lane_mask_unchecked(a, depth, limit, blimit) & ((l as u16) < n);
     }
     on
 }

@@ -6,7 +6,7 @@ use Rattle.lanes.specs.LanesLaws.{lane_found, lane_samples}
 use Rattle.byte_lanes.proofs.lane_arms.Goals as goal
 
 pub loop-l-init : goal.loop-l-init
-loop-l-init c = (c.requires.2, refl, arms_none _)
+loop-l-init c = (c.told-t, refl, arms_none _)
 
 pub lane_arm_unchecked-requires : goal.lane_arm_unchecked-requires
 lane_arm_unchecked-requires c = (c.requires.1.small c.loop-l.l (omega arith), c.requires.0)
