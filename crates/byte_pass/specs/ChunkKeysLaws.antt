@@ -1,8 +1,13 @@
 -- Laws of the keys of a chunk, for the code that spreads them.
 -- Assumes nothing.
-use Rattle.std.specs.Prelude.{◌≡◌, ◌⊎◌, Bool, true, false, List, ℕ, ◌+◌, ◌*◌, ◌/◌, ◌%◌, ◌≤◌, ◌<◌, get_or, replicate}
-use Rattle.std.proofs.Common.{ap, ◌∙◌, inl, inr, zero-add, arith}
+use Rattle.std.specs.Prelude.{◌≡◌, ◌⊎◌, Bool, true, false, List, ℕ, ◌+◌, ◌-◌, ◌*◌, ◌/◌, ◌%◌, ◌≤◌, ◌<◌, length, get_or, replicate, slice_range, not, eqb, ◌||◌}
+use borrow.Author.Tests.{eqb-true, not-false}
+use Rattle.std.proofs.Common.{sym, drop, length-take-le, length-drop, ap, ◌∙◌, inl, inr, zero-add, arith}
+use Rattle.std.specs.List.{fold}
+use Rattle.std.proofs.lemmas.List.{get_or-take, get_or-drop}
+use Rattle.base.specs.First.{found, found-false}
 use Rattle.base.specs.Filled.{filled_at}
+use Rattle.byte_chunks.specs.FoundLaws.{fold_found}
 use Rattle.keys.specs.Keyed.{key_for, Keyed}
 use Rattle.geometry.specs.Coordinates.{shr}
 use Rattle.geometry.specs.declared.Pass.{Pass}
@@ -15,6 +20,19 @@ use Rattle.byte_pass.specs.ChunkKeys.{spread, ChunkKeys}
 spread_at : (at len : ℕ) (keys : List ℕ) (k : ℕ) → k < 16 → get_or (spread at len keys) k 0 ≡ get_or keys (at + k / len) 0
 unfolding spread
 spread_at at len keys k h = rw (zero-add k) at (filled_at (λ j. get_or keys (at + j / len) 0) 0 16 (replicate 16 0) k h (omega arith))
+
+-- whether a key filters
+abbrev filters : ℕ → Bool
+filters key = not (eqb (key % 64) 0)
+
+-- where none of n cells from the place at on filters, the cell at the place i has level 0
+pub none_filters : (keys : List ℕ) (at n c i : ℕ) → at + n ≤ length keys → fold (λ any key. any || not (eqb (key % 64) 0)) false (slice_range keys at (at + n)) ≡ false → c < n → at + c ≡ i → get_or keys i 0 % 64 ≡ 0
+none_filters keys at n c i room off h is =
+    let cells : List ℕ = slice_range keys at (at + n) in
+    let long : length cells ≡ n = length-take-le (at + n - at) (drop at keys) (omega (arith, length-drop at keys)) ∙ omega arith in
+    let here : get_or cells c 0 ≡ get_or keys i 0 = get_or-take (at + n - at) (drop at keys) c 0 (omega arith) ∙ get_or-drop at keys c 0 ∙ ap (λ (x : ℕ). get_or keys x 0) is in
+    let none : found (λ k. filters (get_or cells k 0)) n ≡ false = rw long at (sym (fold_found filters 0 cells) ∙ off) in
+    rw here at (eqb-true _ 0 (not-false (eqb (get_or cells c 0 % 64) 0) (found-false (λ k. filters (get_or cells k 0)) n none c h)))
 
 -- a cell has 8 positions, or 4, and a chunk is among the edge's
 record Cells (len m : ℕ) : Type 0 where

@@ -1,6 +1,6 @@
 // The keys of a chunk, one for each of its 16 positions.
-ghost use Rattle.std.specs.Prelude.{◌≡◌, not, false, ℕ, ◌+◌, ◌*◌, ◌/◌, ◌%◌, ◌≤◌, ◌<◌, ◌⊎◌, eqb, get_or};
-ghost use Rattle.base.specs.First.{found};
+ghost use Rattle.std.specs.Prelude.{◌≡◌, not, ◌||◌, false, ℕ, slice_range, ◌+◌, ◌*◌, ◌/◌, ◌%◌, ◌≤◌, ◌<◌, ◌⊎◌, eqb, get_or};
+ghost use Rattle.std.specs.List.{fold};
 ghost use Rattle.pass.specs.Chunks.{key_along};
 ghost use Rattle.pass_edges.specs.PassEdges.{edge_count, edge_len};
 ghost use Rattle.byte_pass.specs.ChunkKeys.{spread, ChunkKeys};
@@ -10,11 +10,13 @@ use keys::Keys;
 use pass_edges::along;
 
 // The keys of cells from the place at on, each for len positions.
+#[tactic(auto, unfolding(base::specs::Filled::filled, crate::specs::ChunkKeys::spread))]
 fn spread(keys: &[u8; 64], at: usize, len: usize) -> [u8; 16]
     requires { ((len ≡ 8) × (at + 2 ≤ 64)) ⊎ ((len ≡ 4) × (at + 4 ≤ 64)) }
     ensures { result ≡ spread at len keys.now }
 {
     let mut r = [0u8; 16];
+    // By `array::from_fn` the proof did not close: what its closure captures is not followed from call to call.
     for k in 0..16 {
         r[k] = keys[at + k / len];
     }
@@ -46,16 +48,13 @@ pub(crate) fn chunk_keys(keys: &Keys, s: Superblock, pass: Pass, edge: usize, m:
     edge_keys(&keys.inner, at, len, m)
 }
 
-// Whether one of n cells from the place at on filters.
+// Whether one of n cells from the place at on filters. All are looked at: a branch for each costs more.
 fn any_filters(keys: &[u8; 64], at: usize, n: usize) -> bool
     requires { at + n ≤ 64 }
-    ensures { result ≡ found (λ c. not (eqb (get_or keys.now (at + c) 0 % 64) 0)) n }
+    ensures { result ≡ fold (λ any key. any || not (eqb (key % 64) 0)) false (slice_range keys.now at (at + n)) }
 {
-    let mut any = false;
-    for c in 0..n {
-        any = any | (keys[at + c] % 64 != 0);
-    }
-    any
+    let cells = &keys[at..at + n];
+    cells.iter().fold(false, |any, key| any | (*key % 64 != 0))
 }
 
 // Whether a cell of chunk m of an edge filters. The cells are looked at, before their keys are spread.

@@ -1,13 +1,8 @@
-use borrow.Author.Tests.{eqb-true, not-false}
-use mathlib.Core.Bool.{false, not}
-use mathlib.Core.List.{List}
 use mathlib.Core.Logic.{⊎_elim}
-use mathlib.Core.Path.{◌≡◌, sym, ap, ◌∙◌}
-use Prim.Native.Nat.{ℕ, ◌+◌, ◌*◌, ◌/◌, ◌%◌, ◌<◌}
+use mathlib.Core.Path.{◌≡◌, sym, ◌∙◌}
+use Prim.Native.Nat.{◌+◌, ◌*◌, ◌/◌}
 use native.Mathlib.Omega.{arith}
-use lib.Dec.{eqb}
-use lib.ListN.{get_or}
-use Rattle.base.specs.First.{found, found-false}
+use Rattle.byte_pass.specs.ChunkKeysLaws.{none_filters}
 use Rattle.byte_pass.proofs.chunk_keys.cells_filter.Goals as goal
 use Rattle.byte_pass.proofs.chunk_keys.cells_filter.Tie as tie
 use Rattle.byte_pass.proofs.chunk_keys.cells_filter.Lts as lts
@@ -20,22 +15,17 @@ at-Else1 = lts.Else1 tie.the-claims reads.Pre reads.Post
 four : (c : at-Else1) → c.args.len ≡ 4
 four c = ⊎_elim (λ e. absurd (c.if-len-eq8.false e)) (λ e. e) c.requires.1
 
--- where none of n cells filters, the cell at place i has level 0
-none : (keys : List ℕ) (at n c i : ℕ) → found (λ c. not (eqb (get_or keys (at + c) 0 % 64) 0)) n ≡ false → c < n → at + c ≡ i → get_or keys i 0 % 64 ≡ 0
-none keys at n c i e h is =
-    ap (λ (x : ℕ). get_or keys x 0 % 64) (sym is) ∙ eqb-true _ 0 (not-false (eqb (get_or keys (at + c) 0 % 64) 0) (found-false (λ c. not (eqb (get_or keys (at + c) 0 % 64) 0)) n e c h))
-
 pub returns-then-len-eq8 : goal.returns-then-len-eq8
 returns-then-len-eq8 c = λ off k h.
     let a = c.args in
     let e : a.len ≡ 8 = c.if-len-eq8.true in
-    none a.keys.now (a.at + 2 * a.m) 2 (k / 8) _ (sym c.any_filters.ensures ∙ off) (omega arith) (rw e (omega arith))
+    none_filters a.keys.now (a.at + 2 * a.m) 2 (k / 8) _ (omega arith) (sym c.any_filters.ensures ∙ off) (omega arith) (rw e (omega arith))
 
 pub returns : goal.returns
 returns c = λ off k h.
     let a = c.args in
     let e : a.len ≡ 4 = four c.before in
-    none a.keys.now (a.at + 4 * a.m) 4 (k / 4) _ (sym c.any_filters-2.ensures ∙ off) (omega arith) (rw e (omega arith))
+    none_filters a.keys.now (a.at + 4 * a.m) 4 (k / 4) _ (omega arith) (sym c.any_filters-2.ensures ∙ off) (omega arith) (rw e (omega arith))
 
 pub overflow_mul-m : goal.overflow_mul-m
 overflow_mul-m c =

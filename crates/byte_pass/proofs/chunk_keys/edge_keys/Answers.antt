@@ -1,8 +1,7 @@
-use mathlib.Core.Logic.{◌⊎◌, inl, inr, ⊎_elim}
+use mathlib.Core.Logic.{inl, inr, ⊎_elim}
 use mathlib.Core.Path.{◌≡◌, ◌∙◌}
 use Prim.Native.Nat.{◌+◌, ◌*◌, ◌/◌}
 use native.Mathlib.Omega.{arith}
-use Rattle.byte_pass.specs.ChunkKeys.{spread}
 use Rattle.byte_pass.proofs.chunk_keys.edge_keys.Goals as goal
 use Rattle.byte_pass.proofs.chunk_keys.edge_keys.Tie as tie
 use Rattle.byte_pass.proofs.chunk_keys.edge_keys.Lts as lts
