@@ -3,11 +3,14 @@
 #![tactic(auto)]
 
 ghost use Rattle.std.specs.Prelude.{◌≡◌};
-ghost use Rattle.base.specs.Outcome.{refused};
-ghost use Rattle.edges.specs.Edge.{superblock_filter_edge, outcome_of};
+ghost use Rattle.base.specs.Fault.{number_of};
+ghost use Rattle.base.specs.Outcome.{accepted, refused};
+ghost use Rattle.edges.specs.Edge.{superblock_filter_edge};
 ghost use Rattle.c_edges.specs.EdgeEntry.{entry_of, mi_of};
 
-use edges::{EdgeAnswer, SuperblockFilterMi};
+use base::fault::Fault;
+use edges::{SuperblockFilterEdge, SuperblockFilterMi};
+use geometry::Luma;
 
 // The answer of springspade_edge: number and place 0 with the facts, or the number of the refusal with zeros.
 #[repr(C)]
@@ -39,11 +42,33 @@ pub struct Edge {
     pub filter_size: u8,
 }
 
-fn refusal(number: u32) -> Edge
-    ensures { result ≡ entry_of (refused number 0) }
+fn accepted(facts: SuperblockFilterEdge) -> Edge
+    ensures { result ≡ entry_of (accepted facts) }
+{
+    let Luma(x) = facts.x;
+    let Luma(y) = facts.y;
+    Edge {
+        number: 0,
+        place: 0,
+        x,
+        y,
+        loop_col: facts.loop_col,
+        loop_row: facts.loop_row,
+        is_block_edge: facts.is_block_edge,
+        is_tx_edge: facts.is_tx_edge,
+        is_32_edge: facts.is_32_edge,
+        on_screen: facts.on_screen,
+        apply_filter: facts.apply_filter,
+        filter_size: facts.size,
+    }
+}
+
+// No refusal of a position has a place.
+fn refused(fault: Fault) -> Edge
+    ensures { result ≡ entry_of (refused (number_of fault) 0) }
 {
     Edge {
-        number,
+        number: fault.number(),
         place: 0,
         x: 0,
         y: 0,
@@ -55,38 +80,6 @@ fn refusal(number: u32) -> Edge
         on_screen: false,
         apply_filter: false,
         filter_size: 0,
-    }
-}
-
-fn entry_of(answer: EdgeAnswer) -> Edge
-    ensures { result ≡ entry_of (outcome_of answer) }
-{
-    match answer {
-        EdgeAnswer::Done(e) => {
-            let x = e.x;
-            let y = e.y;
-            Edge {
-                number: 0,
-                place: 0,
-                x: x.0,
-                y: y.0,
-                loop_col: e.loop_col,
-                loop_row: e.loop_row,
-                is_block_edge: e.is_block_edge,
-                is_tx_edge: e.is_tx_edge,
-                is_32_edge: e.is_32_edge,
-                on_screen: e.on_screen,
-                apply_filter: e.apply_filter,
-                filter_size: e.size,
-            }
-        }
-        EdgeAnswer::Subsampling => refusal(3),
-        EdgeAnswer::FrameSize => refusal(4),
-        EdgeAnswer::Row => refusal(5),
-        EdgeAnswer::Block => refusal(8),
-        EdgeAnswer::Pass => refusal(9),
-        EdgeAnswer::Column => refusal(10),
-        EdgeAnswer::Grid => refusal(16),
     }
 }
 
@@ -114,8 +107,10 @@ pub fn springspade_edge(
         skip,
         ref_frame,
     };
-    let answer = edges::superblock_filter_edge(
+    match edges::superblock_filter_edge(
         pass, mi_row, mi_col, edge, i, sub_x, sub_y, mi_cols, mi_rows, mi,
-    );
-    entry_of(answer)
+    ) {
+        Ok(facts) => accepted(facts),
+        Err(fault) => refused(fault),
+    }
 }

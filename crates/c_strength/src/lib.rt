@@ -3,11 +3,8 @@
 #![tactic(auto)]
 
 ghost use Rattle.std.specs.Prelude.{◌≡◌};
-ghost use Rattle.base.specs.Outcome.{refused};
 ghost use Rattle.strength.specs.Strength.{mode_type, strength_for};
 ghost use Rattle.c_strength.specs.StrengthEntry.{entry_of};
-
-use strength::StrengthAnswer;
 
 // The answer of springspade_strength: number and place 0 with the three values, or the number of the refusal with
 // zeros. The values are those of 8 bits; springspade_line scales them to its bit_depth.
@@ -26,32 +23,26 @@ pub struct Strength {
     pub thresh: u8,
 }
 
-fn refusal(number: u32) -> Strength
-    ensures { result ≡ entry_of (refused number 0) }
-{
-    Strength {
-        number,
-        place: 0,
-        limit: 0,
-        blimit: 0,
-        thresh: 0,
-    }
-}
-
 // The strength of the line filter for a level and the frame's sharpness.
 pub fn springspade_strength(level: u8, sharpness: u8) -> Strength
     ensures { result ≡ entry_of (strength_for level sharpness) }
 {
     match strength::strength_for_level(level, sharpness) {
-        StrengthAnswer::Done(s) => Strength {
+        Ok(s) => Strength {
             number: 0,
             place: 0,
             limit: s.limit,
             blimit: s.blimit,
             thresh: s.thresh,
         },
-        StrengthAnswer::Sharpness => refusal(1),
-        StrengthAnswer::Level => refusal(6),
+        // Neither refusal has a place.
+        Err(fault) => Strength {
+            number: fault.number(),
+            place: 0,
+            limit: 0,
+            blimit: 0,
+            thresh: 0,
+        },
     }
 }
 

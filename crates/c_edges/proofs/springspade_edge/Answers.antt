@@ -1,8 +1,18 @@
-use mathlib.Core.Path.{◌∙◌, ap}
-use mir.Facts.{to_z-of_z}
-use Rattle.c_edges.specs.EdgeEntry.{entry_of}
+use Rattle.std.proofs.Common.{◌≡◌, ◌∙◌, ap, to_z-of_z}
+use Rattle.base.specs.Fault.{place_of}
+use Rattle.base.specs.Outcome.{Outcome, returned}
+use Rattle.edges.specs.EdgeLaws.{edge_place}
+use Rattle.edges.specs.declared.SuperblockFilterEdge.{SuperblockFilterEdge}
+use Rattle.c_edges.specs.EdgeEntry.{entry_of, mi_of}
 use Rattle.c_edges.proofs.springspade_edge.Goals as goal
 
-pub returns : goal.returns
-returns c =
-    rw (to_z-of_z c.ranges.ref_frame) at (c.entry_of.ensures ∙ ap entry_of c.superblock_filter_edge-answer.ensures)
+pub returns-in-Ok : goal.returns-in-Ok
+returns-in-Ok c = rw (to_z-of_z c.ranges.ref_frame) at (c.accepted.ensures ∙ ap entry_of c.in-Ok.ensures)
+
+pub returns-in-Err : goal.returns-in-Err
+returns-in-Err c =
+    let a = c.args in
+    let is = rw (to_z-of_z c.ranges.ref_frame) at c.in-Err.ensures in
+    let place : place_of c.in-Err.fault ≡ 0 =
+    ap (λ (o : Outcome SuperblockFilterEdge). (returned o).place) is ∙ edge_place a.pass a.mi_row a.mi_col a.edge a.i a.sub_x a.sub_y a.mi_cols a.mi_rows (mi_of a.mi_size a.tx_size a.skip a.ref_frame) in
+    c.refused.ensures ∙ (rw place at (ap entry_of is))
