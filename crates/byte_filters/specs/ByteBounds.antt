@@ -1,28 +1,15 @@
 -- Lines whose samples are bytes: a lane of 16 bits holds them, and what is made of them goes back into bytes.
 -- Assumes nothing.
-use Rattle.std.specs.Prelude.{◌≡◌, List, [], ◌∷◌, ℕ, zero, suc, ◌<◌}
+use Rattle.std.specs.Prelude.{◌≡◌, List, ℕ, ◌+◌, ◌<◌}
 use Rattle.std.proofs.Common.{arith, Fits}
 use Rattle.std.specs.Int.{w8}
 use Rattle.lane_filters.specs.LaneSamples.{samples_of, Small}
 use Rattle.lane_filters.specs.declared.Lane.{Lane}
 use Rattle.wide_filter.specs.Taps.{tap, Within}
+use Rattle.wide_filter.specs.WideSums.{AtMost}
 
--- each number of a list is below b: of none, and of a first one and others
-pub record Below (b : ℕ) (t : List ℕ) : Type 0 where
-  pub below : (k : ℕ) → tap t k < b
-
-pub below_none : {b : ℕ} → 0 < b → Below b []
-below_none h = record { below = λ k. h }
-
-pub below_next : {b x : ℕ} {t : List ℕ} → x < b → Below b t → Below b (x ∷ t)
-below_next {b} {x} {t} h f = record { below = cases }
-  where
-    cases : (k : ℕ) → tap (x ∷ t) k < b
-    cases zero = h
-    cases (suc k) = f.below k
-
-pub below_within : {b : ℕ} {t : List ℕ} → Below b t → Within b t
-below_within f = record { below = λ k h. f.below k }
+pub most_within : {b : ℕ} {t : List ℕ} → AtMost b t → Within (b + 1) t
+most_within f = record { below = λ k h. omega (arith, f.most k) }
 
 -- a lane of bytes is small
 pub bytes_small : (a : Lane ℕ) → Within 256 (samples_of a) → Small a

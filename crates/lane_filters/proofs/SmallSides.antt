@@ -1,7 +1,6 @@
 -- The sides of a lane of 12 bits.
 -- Assumes nothing.
 use Rattle.std.specs.Prelude.{[], ◌∷◌, ℕ}
-use Rattle.std.proofs.Common.{arith}
 use Rattle.wide_filter.specs.WideSums.{AtMost, most_none, most_next}
 use Rattle.lane_filters.specs.LaneSamples.{Small}
 use Rattle.lane_filters.specs.declared.Lane.{Lane}

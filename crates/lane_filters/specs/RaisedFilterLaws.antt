@@ -1,6 +1,6 @@
 -- The raised values are those of the narrow filter.
 -- Assumes nothing.
-use Rattle.std.specs.Prelude.{◌≡◌, Bool, cond, List, ℤ, pos, ◌+ℤ◌, ◌-ℤ◌, ◌*ℤ◌, set}
+use Rattle.std.specs.Prelude.{◌≡◌, Bool, cond, List, pos, ◌+ℤ◌, ◌-ℤ◌, ◌*ℤ◌, set}
 use Rattle.std.proofs.Common.{◌∙◌, arith}
 use Rattle.std.proofs.Math.Path.{ap}
 use Rattle.std.proofs.Math.Bool.{true, false}

@@ -6,8 +6,8 @@ ghost use Rattle.lane_filters.specs.LaneSamples.{values_of};
 
 use crate::Lane;
 
-// A sample as the tests take it, a limit too. The step across the edge is told right where the samples are `Few` and the
-// limit is not `Large`.
+// A sample as the tests take it, and a limit. Two samples are compared whatever they are; the step across the edge asks for
+// samples and a limit whose sum its width can tell.
 pub trait Sample: Copy {
     ghost value: { Self → ℕ };
 

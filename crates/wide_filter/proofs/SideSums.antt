@@ -1,6 +1,6 @@
 -- Sums of the first samples of a side, and how great they are.
 -- Assumes nothing.
-use Rattle.std.specs.Prelude.{◌≡◌, refl, List, ℕ, zero, suc, ◌+◌, ◌-◌, ◌*◌, ◌/◌, ◌<◌, ◌≤◌, length, set}
+use Rattle.std.specs.Prelude.{◌≡◌, List, ℕ, zero, suc, ◌+◌, ◌-◌, ◌*◌, ◌/◌, ◌<◌, ◌≤◌, length, set}
 use Rattle.std.proofs.Common.{ap, ◌∙◌, ⊎_elim, arith, mul-le-mul_right, add-mul, add-one, zero-add, get_or-set_same, get_or-set_other}
 use Rattle.base.specs.NotationLaws.{split}
 use Rattle.wide_filter.specs.Taps.{tap}

@@ -1,6 +1,6 @@
 -- The wide filter is the page's.
 -- Assumes nothing.
-use Rattle.std.specs.Prelude.{◌≡◌, ℕ, ◌+◌, ◌-◌, ℤ, pos, ◌-ℤ◌}
+use Rattle.std.specs.Prelude.{◌≡◌, ℕ, ◌+◌, ℤ, pos, ◌-ℤ◌}
 use Rattle.std.proofs.Common.{arith}
 use Rattle.base.specs.Filled.{filled, filled_same}
 use Rattle.section_8_8.specs.LoopFilterProcess as Std

@@ -1,7 +1,6 @@
 use mathlib.Core.Path.{◌≡◌}
 use native.Mathlib.Omega.{arith}
 use Rattle.base.specs.Tests.{neither}
-use Rattle.lanes.specs.Lanes.{lane_at}
 use Rattle.lanes.specs.LanesLaws.{lane_found, none_none, none_more, small_at}
 use Rattle.lanes.proofs.any_mask.Goals as goal
 

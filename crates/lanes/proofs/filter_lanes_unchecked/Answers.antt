@@ -3,7 +3,7 @@ use mathlib.Core.Path.{◌≡◌, refl}
 use mathlib.Core.Bool.{Bool, true, false}
 use Prim.Native.Nat.{ℕ}
 use native.Mathlib.Omega.{arith}
-use Rattle.std.proofs.Common.{of_calls, List, ◌<◌}
+use Rattle.std.proofs.Common.{of_calls, List}
 use Rattle.std.proofs.lemmas.List.{map-id}
 use Rattle.lane_filters.specs.LaneSamples.{Small}
 use Rattle.line.specs.SampleFiltering.{sample_filtering}

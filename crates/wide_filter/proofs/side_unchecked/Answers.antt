@@ -1,5 +1,4 @@
-use Rattle.std.proofs.Common.{◌≡◌, ◌+◌, ◌-◌, ◌*◌, ◌/◌, ◌<◌, ◌≤◌, ℕ, arith, ap, ◌∙◌, length-set}
-use Rattle.wide_filter.specs.Taps.{tap}
+use Rattle.std.proofs.Common.{◌≡◌, ◌+◌, ◌-◌, ◌*◌, ◌/◌, ℕ, arith, ap, ◌∙◌, length-set}
 use Rattle.wide_filter.specs.WideSums.{side}
 use Rattle.wide_filter.proofs.SideSums.{total, total_more, near_fits, sum_of, Whole, whole, whole_side, side_more}
 use Rattle.wide_filter.proofs.side_unchecked.Goals as goal

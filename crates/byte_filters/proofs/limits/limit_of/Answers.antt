@@ -1,5 +1,4 @@
 use mathlib.Core.Path.{◌≡◌}
-use native.Mathlib.Omega.{arith}
 use Rattle.strength.specs.Strength.{limit_of}
 use Rattle.strength.specs.StrengthLaws.{limit_small}
 use Rattle.byte_filters.specs.TopLimit.{limit_is}

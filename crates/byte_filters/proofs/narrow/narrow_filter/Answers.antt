@@ -1,4 +1,3 @@
-use borrow.Author.Rules.{rules}
 use mathlib.Core.Path.{refl}
 use Rattle.base.specs.Depth.{supported}
 use Rattle.lane_filters.specs.RaisedFilterLaws.{narrow_high, narrow_low}

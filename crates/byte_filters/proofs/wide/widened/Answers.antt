@@ -1,5 +1,6 @@
 use native.Mathlib.Omega.{arith}
-use Rattle.byte_filters.specs.ByteBounds.{below_none, below_next, below_within}
+use Rattle.wide_filter.specs.WideSums.{most_none, most_next}
+use Rattle.byte_filters.specs.ByteBounds.{most_within}
 use Rattle.byte_filters.proofs.wide.widened.Goals as goal
 
 pub returns : goal.returns
@@ -38,22 +39,22 @@ returns c =
         q6.wide-15.ensures.0,
         q7.wide-16.ensures.0,
       ),
-      below_within
-          (below_next p7.wide.ensures.1
-          (below_next p6.wide-2.ensures.1
-          (below_next p5.wide-3.ensures.1
-          (below_next p4.wide-4.ensures.1
-          (below_next p3.wide-5.ensures.1
-          (below_next p2.wide-6.ensures.1
-          (below_next p1.wide-7.ensures.1
-          (below_next p0.wide-8.ensures.1
-          (below_next q0.wide-9.ensures.1
-          (below_next q1.wide-10.ensures.1
-          (below_next q2.wide-11.ensures.1
-          (below_next q3.wide-12.ensures.1
-          (below_next q4.wide-13.ensures.1
-          (below_next q5.wide-14.ensures.1
-          (below_next q6.wide-15.ensures.1
-          (below_next q7.wide-16.ensures.1
-          (below_none (omega arith)))))))))))))))))),
+      most_within {b = 255}
+          (most_next p7.wide.ensures.1
+          (most_next p6.wide-2.ensures.1
+          (most_next p5.wide-3.ensures.1
+          (most_next p4.wide-4.ensures.1
+          (most_next p3.wide-5.ensures.1
+          (most_next p2.wide-6.ensures.1
+          (most_next p1.wide-7.ensures.1
+          (most_next p0.wide-8.ensures.1
+          (most_next q0.wide-9.ensures.1
+          (most_next q1.wide-10.ensures.1
+          (most_next q2.wide-11.ensures.1
+          (most_next q3.wide-12.ensures.1
+          (most_next q4.wide-13.ensures.1
+          (most_next q5.wide-14.ensures.1
+          (most_next q6.wide-15.ensures.1
+          (most_next q7.wide-16.ensures.1
+          most_none)))))))))))))))),
     )

@@ -1,4 +1,3 @@
-use borrow.Author.Rules.{rules}
 use Rattle.lane_filters.specs.LaneSamples.{samples_of}
 use Rattle.lane_filters.specs.RaisedFilterLaws.{narrow_high, narrow_low}
 use Rattle.lane_filters.proofs.narrow.narrow_filter.Goals as goal
