@@ -1,18 +1,11 @@
 -- A fold that looks for a test at each element.
 -- Assumes nothing.
-use Rattle.std.specs.Prelude.{◌≡◌, refl, Bool, true, false, List, [], ◌∷◌, ◌||◌, ℕ, suc, ◌+◌, length, get_or}
+use Rattle.std.specs.Prelude.{◌≡◌, Bool, false, List, [], ◌∷◌, ◌||◌, ℕ, suc, ◌+◌, length, get_or}
 use Rattle.std.specs.List.{fold}
 use Rattle.std.proofs.Common.{sym, ap, ◌∙◌, one-add}
+use Rattle.std.proofs.Math.Bool.{or_assoc, or-false}
 use Rattle.base.specs.First.{found}
 use Rattle.base.specs.FirstLaws.{found_join, found_same}
-
-or_false : (a : Bool) → a ≡ a || false
-or_false true = refl
-or_false false = refl
-
-or_assoc : (a b c : Bool) → (a || b) || c ≡ a || (b || c)
-or_assoc true b c = refl
-or_assoc false b c = refl
 
 module _ {A : Type 0} (test : A → Bool) (d : A) where
   abbrev at : List A → ℕ → Bool
@@ -27,7 +20,7 @@ module _ {A : Type 0} (test : A → Bool) (d : A) where
 
   from : (b : Bool) (xs : List A) → fold (λ on x. on || test x) b xs ≡ b || found (at xs) (length xs)
   unfolding found
-  from b [] = or_false b
+  from b [] = sym (or-false b)
   from b (x ∷ xs) = from (b || test x) xs ∙ or_assoc b (test x) _ ∙ ap (λ (c : Bool). b || c) (sym (front x xs))
 
   pub fold_found : (xs : List A) → fold (λ on x. on || test x) false xs ≡ found (at xs) (length xs)

@@ -29,9 +29,9 @@ pub fn load_lanes_unchecked(
 {
     if step == 1 {
         load_across(t, samples, at, along, n, all);
-        return;
+    } else {
+        load_down(t, samples, at, step, n, all);
     }
-    load_down(t, samples, at, step, n, all);
 }
 
 // The table is turned where positions are stored row by row.
@@ -49,7 +49,7 @@ pub fn store_lanes_unchecked(
 {
     if step == 1 {
         store_across(samples, at, along, n, t, all);
-        return;
+    } else {
+        store_down(samples, at, step, n, t, all);
     }
-    store_down(samples, at, step, n, t, all);
 }

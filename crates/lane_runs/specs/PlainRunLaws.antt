@@ -8,6 +8,7 @@ use mathlib.Core.List.{List}
 use Prim.Native.Nat.{ℕ, zero, suc, ◌+◌, ◌≤◌, ◌<◌}
 use native.Mathlib.Omega.{arith}
 use Rattle.std.proofs.Math.ListN.{get_or}
+use Rattle.std.proofs.lemmas.Bool.{cases_eq}
 use Rattle.base.specs.NotationLaws.{split}
 use Rattle.window.specs.InsideRun.{plain_lines}
 use Rattle.window.specs.Stencil.{taps, applied, in_turn}
@@ -59,13 +60,6 @@ module _ (f : ℕ → List ℕ → List ℕ) (at step along N : ℕ) (w : List �
     few : number < 16
     is : j ≡ place_of at step along position number
 
-  same : (a b : ℕ) → (a ≡ b) ⊎ (a ≢ b)
-  same a b =
-      ⊎_elim
-      (λ (x : a < b). inr (λ e. omega arith))
-      (λ (x : b ≤ a). ⊎_elim (λ (y : b < a). inr (λ e. omega arith)) (λ (y : a ≤ b). inl (omega arith)) (split b a))
-      (split a b)
-
   tap_search : (l j m : ℕ) → m ≤ 16 → Hit (suc l) j ⊎ ((k : ℕ) → k < m → j ≢ place_of at step along l k)
   tap_search l j zero h = inr (λ k b. absurd (omega arith))
   tap_search l j (suc m) h =
@@ -76,7 +70,7 @@ module _ (f : ℕ → List ℕ → List ℕ) (at step along N : ℕ) (w : List �
       (λ hit. inl hit)
       (λ none. inr (λ k b. ⊎_elim (λ (x : k < m). none k x) (λ (x : m ≤ k). let y : k ≡ m = omega arith in rw y d) (split k m)))
       (tap_search l j m (omega arith)))
-      (same j (place_of at step along l m))
+      (cases_eq j (place_of at step along l m))
 
   search_taps : (n j : ℕ) → Hit n j ⊎ ((l k : ℕ) → l < n → k < 16 → j ≢ place_of at step along l k)
   search_taps zero j = inr (λ l k a. absurd (omega arith))

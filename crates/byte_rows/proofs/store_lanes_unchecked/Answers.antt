@@ -15,5 +15,5 @@ store_down-requires c =
     let (run, some, unit) = c.requires in
     ((rw (side_by_side (⊎_swap unit) c.if-step-eq1.false) at run), some)
 
-pub returns : goal.returns
-returns c = rw (side_by_side (⊎_swap c.requires.2) c.if-step-eq1.false) c.store_down.ensures
+pub returns-else-step-eq1 : goal.returns-else-step-eq1
+returns-else-step-eq1 c = rw (side_by_side (⊎_swap c.requires.2) c.if-step-eq1.false) c.store_down.ensures
