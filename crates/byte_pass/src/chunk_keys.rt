@@ -48,7 +48,7 @@ pub(crate) fn chunk_keys(keys: &Keys, s: Superblock, pass: Pass, edge: usize, m:
     edge_keys(&keys.inner, at, len, m)
 }
 
-// Whether one of n cells from the place at on filters. All are looked at: a branch for each costs more.
+// Whether one of n cells from the place at on filters. By a fold: by `any` a pass without levels took 4 percent longer.
 fn any_filters(keys: &[u8; 64], at: usize, n: usize) -> bool
     requires { at + n ≤ 64 }
     ensures { result ≡ fold (λ any key. any || not (eqb (key % 64) 0)) false (slice_range keys.now at (at + n)) }
