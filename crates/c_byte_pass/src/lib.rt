@@ -11,8 +11,7 @@ ghost use Rattle.word_bytes.specs.WordBytes.{words_of};
 
 pub mod unchecked;
 
-use c_border::Refusal;
-use c_pass::refusal_of;
+use c_border::{Refusal, refusal_of};
 use window::WindowShape;
 
 // As springspade_pass over bytes, the words of the cells too.
@@ -42,9 +41,8 @@ pub fn springspade_pass_bytes(
         stride,
         top: y_origin,
     };
-    let answer = byte_pass::superblock_loop_filter_bytes(
+    refusal_of(byte_pass::superblock_loop_filter_bytes(
         samples, g, cells, sharpness, bit_depth, sub_x, sub_y, mi_cols, mi_rows, mi_row, mi_col,
         plane, pass,
-    );
-    refusal_of(answer)
+    ))
 }

@@ -6,23 +6,12 @@ ghost use Rattle.std.specs.Prelude.{◌≡◌};
 ghost use Rattle.base.specs.Outcome.{Answers};
 ghost use Rattle.base.specs.Width.{U16};
 ghost use Rattle.pass.specs.Pass.{superblock_loop_filter_cells};
-ghost use Rattle.faults.specs.Faults.{returned_of};
-ghost use Rattle.c_border.specs.Border.{numbers_of, crossing};
+ghost use Rattle.c_border.specs.Border.{numbers_of};
 
 pub mod unchecked;
 
-use c_border::{Refusal, crossed};
-use faults::{PassAnswer, number_of, place_of};
+use c_border::{Refusal, refusal_of};
 use window::WindowShape;
-
-// An answer as it crosses the border.
-pub fn refusal_of(answer: PassAnswer) -> Refusal
-    ensures { numbers_of result ≡ crossing (returned_of answer) }
-{
-    let number = number_of(answer);
-    let place = place_of(answer);
-    crossed(number, place)
-}
 
 // Filters the superblock at mi_row, mi_col of a plane in place: vertical edges (pass 0) or horizontal ones (pass 1).
 pub fn springspade_pass(
@@ -51,9 +40,8 @@ pub fn springspade_pass(
         stride,
         top: y_origin,
     };
-    let answer = pass::superblock_loop_filter_cells(
+    refusal_of(pass::superblock_loop_filter_cells(
         samples, g, cells, sharpness, bit_depth, sub_x, sub_y, mi_cols, mi_rows, mi_row, mi_col,
         plane, pass,
-    );
-    refusal_of(answer)
+    ))
 }

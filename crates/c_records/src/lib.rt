@@ -9,8 +9,7 @@ ghost use Rattle.plane_window.specs.PlaneWindow.{shape, pass_over};
 pub mod records;
 pub mod rows;
 
-use c_border::Refusal;
-use c_pass::refusal_of;
+use c_border::{Refusal, refusal_of};
 use plane_window::numbers::PassNumbers;
 use plane_window::pass_plane;
 
@@ -26,6 +25,5 @@ pub fn springspade_pass_window(
 ) -> Refusal
     ensures { Answers (pass_over (shape width height stride y_origin) numbers cells.now samples.old) (numbers_of result) samples.old samples.new }
 {
-    let answer = pass_plane(samples, cells, width, height, stride, y_origin, numbers);
-    refusal_of(answer)
+    refusal_of(pass_plane(samples, cells, width, height, stride, y_origin, numbers))
 }

@@ -4,8 +4,7 @@ ghost use Rattle.c_border.specs.Border.{numbers_of};
 ghost use Rattle.plane_window.specs.PlaneWindow.{shape};
 ghost use Rattle.record_pass.specs.RecordPass.{pass_records};
 
-use c_border::Refusal;
-use c_pass::refusal_of;
+use c_border::{Refusal, refusal_of};
 use cell_records::CellRecord;
 use plane_window::numbers::PassNumbers;
 use record_pass::pass_records;

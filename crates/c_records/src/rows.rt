@@ -4,8 +4,7 @@ ghost use Rattle.c_border.specs.Border.{numbers_of};
 ghost use Rattle.record_row.specs.RecordRow.{row_records};
 ghost use Rattle.row.specs.Row.{mode_info};
 
-use c_border::Refusal;
-use c_row::refusal_of;
+use c_border::{Refusal, refusal_of};
 use cell_records::CellRecord;
 use record_row::{RowNumbers, row_records};
 

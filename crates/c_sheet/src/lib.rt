@@ -6,15 +6,12 @@ ghost use Rattle.std.specs.Prelude.{◌≡◌};
 ghost use Rattle.c_sheet.specs.SheetEntry.{count_of};
 ghost use Rattle.sheet.specs.SheetAnswers.{answer_of, text_of};
 
-use sheet::{SheetAnswer, run_sheet};
+use sheet::run_sheet;
 
 // Writes the runs that a pass would filter to the front of text, or how the pass would be refused. A sheet and its
 // text are laid out as the run sheet's definitions say.
 pub fn springspade_sheet(sheet: &[u8], text: &mut [u8]) -> usize
     ensures { (result ≡ count_of (answer_of sheet.now text.old)) × (text.new ≡ text_of sheet.now text.old) }
 {
-    match run_sheet(sheet, text) {
-        SheetAnswer::Written(count) => count,
-        SheetAnswer::Room => 0,
-    }
+    run_sheet(sheet, text).unwrap_or(0)
 }

@@ -3,12 +3,12 @@
 
 ghost use Rattle.std.specs.Prelude.{◌≡◌};
 ghost use Rattle.base.specs.Outcome.{Answers};
-ghost use Rattle.faults.specs.Faults.{returned_of};
+ghost use Rattle.base.specs.Fault.{returned_of};
 ghost use Rattle.plane_window.specs.PlaneWindow.{shape, pass_over};
 
 pub mod numbers;
 
-use faults::PassAnswer;
+use base::fault::Fault;
 use numbers::{PassNumbers, pass_numbers};
 
 // Height rows of width samples, stride apart, the first at the plane's row y_origin.
@@ -41,7 +41,11 @@ pub fn window_of<'a>(
 }
 
 // The record is taken apart: slice and numbers go to the pass.
-pub fn pass_window<'a, 'b>(w: PlaneWindow<'a>, cells: &'b [u32], p: PassNumbers) -> PassAnswer
+pub fn pass_window<'a, 'b>(
+    w: PlaneWindow<'a>,
+    cells: &'b [u32],
+    p: PassNumbers,
+) -> Result<(), Fault>
     ensures { Answers (pass_over (shape w.entry.width w.entry.height w.entry.stride w.entry.y_origin) p cells.now w.entry.samples.now) (returned_of result) w.entry.samples.now w.exit.0.now }
 {
     let PlaneWindow {
@@ -63,7 +67,7 @@ pub fn pass_plane(
     stride: usize,
     y_origin: usize,
     p: PassNumbers,
-) -> PassAnswer
+) -> Result<(), Fault>
     ensures { Answers (pass_over (shape width height stride y_origin) p cells.now samples.old) (returned_of result) samples.old samples.new }
 {
     pass_window(

@@ -1,9 +1,9 @@
 // The numbers of a pass as one record, and the pass over slice and numbers.
 ghost use Rattle.base.specs.Outcome.{Answers};
-ghost use Rattle.faults.specs.Faults.{returned_of};
+ghost use Rattle.base.specs.Fault.{returned_of};
 ghost use Rattle.plane_window.specs.PlaneWindow.{shape, pass_over};
 
-use faults::PassAnswer;
+use base::fault::Fault;
 use pass::superblock_loop_filter_cells;
 use window::WindowShape;
 
@@ -42,7 +42,7 @@ pub fn pass_numbers(
     stride: usize,
     y_origin: usize,
     p: PassNumbers,
-) -> PassAnswer
+) -> Result<(), Fault>
     ensures { Answers (pass_over (shape width height stride y_origin) p cells.now samples.old) (returned_of result) samples.old samples.new }
 {
     let g = WindowShape {

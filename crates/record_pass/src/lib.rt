@@ -5,12 +5,12 @@ ghost use Rattle.std.specs.Prelude.{◌≡◌, length, set, take};
 ghost use Rattle.base.specs.Filled.{filled};
 ghost use Rattle.base.specs.Outcome.{Answers};
 ghost use Rattle.cell_records.specs.CellRecord.{word_of};
-ghost use Rattle.faults.specs.Faults.{returned_of};
+ghost use Rattle.base.specs.Fault.{returned_of};
 ghost use Rattle.plane_window.specs.PlaneWindow.{shape, pass_over};
 ghost use Rattle.record_pass.specs.RecordPass.{record_word, pass_records};
 
+use base::fault::Fault;
 use cell_records::{CellRecord, word_of};
-use faults::PassAnswer;
 use plane_window::numbers::{PassNumbers, pass_numbers};
 
 // One record is stored as its word; nothing is stored past the end.
@@ -26,11 +26,8 @@ fn store_word(words: &mut [u32], i: usize, c: CellRecord)
 fn fill(records: &[CellRecord], words: &mut [u32])
     ensures { words.new ≡ filled (record_word records.now) 0 (length records.now) words.old }
 {
-    let n = records.len();
-    let mut i = 0;
-    while i < n {
+    for i in 0..records.len() {
         store_word(&mut *words, i, records[i]);
-        i = i + 1;
     }
 }
 
@@ -44,7 +41,7 @@ fn pass_words(
     stride: usize,
     y_origin: usize,
     p: PassNumbers,
-) -> PassAnswer
+) -> Result<(), Fault>
     ensures { Answers (pass_over (shape width height stride y_origin) p (take lent words.now) samples.old) (returned_of result) samples.old samples.new }
 {
     if words.len() < lent {
@@ -62,7 +59,7 @@ pub fn pass_records(
     stride: usize,
     y_origin: usize,
     p: PassNumbers,
-) -> PassAnswer
+) -> Result<(), Fault>
     ensures { Answers (pass_records (shape width height stride y_origin) p records.now samples.old) (returned_of result) samples.old samples.new }
 {
     let n = records.len();

@@ -4,14 +4,14 @@
 
 ghost use Rattle.std.specs.Prelude.{◌≤◌, take};
 ghost use Rattle.base.specs.Outcome.{Answers};
-ghost use Rattle.faults.specs.Faults.{returned_of};
+ghost use Rattle.base.specs.Fault.{returned_of};
 ghost use Rattle.plane_window.specs.PlaneWindow.{shape};
 ghost use Rattle.record_pass.specs.RecordPass.{pass_records};
 
 pub mod rows;
 
+use base::fault::Fault;
 use cell_records::CellRecord;
-use faults::PassAnswer;
 use plane_window::numbers::PassNumbers;
 use record_pass::pass_records;
 
@@ -25,7 +25,7 @@ pub fn pass_front_unchecked(
     stride: usize,
     y_origin: usize,
     p: PassNumbers,
-) -> PassAnswer
+) -> Result<(), Fault>
     requires { lent ≤ 32 }
     ensures { Answers (pass_records (shape width height stride y_origin) p (take lent records) samples.old) (returned_of result) samples.old samples.new }
 {

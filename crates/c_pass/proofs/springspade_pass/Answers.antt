@@ -1,16 +1,11 @@
-use mathlib.Core.Path.{◌∙◌}
-use Prim.Native.Nat.{◌≤◌}
-use Rattle.c_border.specs.BorderLaws.{crossing_small}
-use Rattle.faults.specs.Faults.{returned_of}
 use Rattle.base.specs.Width.{U16}
+use Rattle.c_border.specs.BorderLaws.{crossed_as}
 use Rattle.pass.specs.PassLaws.{pass_place}
 use Rattle.c_pass.proofs.springspade_pass.Goals as goal
 
 pub returns : goal.returns
 returns c =
-    let f = c.superblock_loop_filter_cells-answer in
     let a = c.args in
-    let place : (returned_of f.result).place ≤ 4294967295 =
-    rw f.ensures.0
-    (pass_place U16 (record { width = a.width; height = a.height; stride = a.stride; top = a.y_origin }) a.sharpness a.bit_depth a.sub_x a.sub_y a.mi_cols a.mi_rows a.mi_row a.mi_col a.plane a.pass a.cells.now a.samples.now) in
-    (c.refusal_of.ensures ∙ crossing_small (returned_of f.result) place ∙ f.ensures.0, f.ensures.1)
+    let e = c.superblock_loop_filter_cells.ensures in
+    let place = pass_place U16 (record { width = a.width; height = a.height; stride = a.stride; top = a.y_origin }) a.sharpness a.bit_depth a.sub_x a.sub_y a.mi_cols a.mi_rows a.mi_row a.mi_col a.plane a.pass a.cells.now a.samples.now in
+    (crossed_as c.refusal_of.ensures e.0 place, e.1)

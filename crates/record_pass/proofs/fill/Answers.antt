@@ -6,12 +6,9 @@ use Rattle.record_pass.specs.RecordPass.{record_word}
 use Rattle.record_pass.proofs.fill.Goals as goal
 
 pub loop-i-init : goal.loop-i-init
-loop-i-init c = record { within = omega arith; as_filled = filled_none _ _ _ }
+loop-i-init c = filled_none _ _ _
 
 pub loop-i-preserved : goal.loop-i-preserved
-loop-i-preserved c = record {
-  within = omega arith;
-  as_filled =
-      let next = rw zero-add at (filled_more (record_word c.args.records.now) 0 c.loop-i.i c.args.words.now) in
-      rw (c.store_word.ensures, c.loop-i.invariant.as_filled, get_or_default c.args.records.now c.loop-i.i _ none c.loop-i-test.true) next;
-}
+loop-i-preserved c =
+    let next = rw zero-add at (filled_more (record_word c.args.records.now) 0 c.loop-i.i c.args.words.now) in
+    rw (c.store_word.ensures, c.loop-i.invariant, get_or_default c.args.records.now c.loop-i.i _ none (omega arith)) next

@@ -5,19 +5,19 @@ use Rattle.run_sheet.proofs.Written.{written, count_of, front_of}
 use Rattle.run_sheet.proofs.print_sheet.Goals as goal
 
 pub returns-in_default : goal.returns-in_default
-returns-in_default g c = absurd (c.in_default.not-Written _ (c.run_sheet.ensures.0 ∙ written _ _ (omega arith)))
+returns-in_default g c = absurd (c.in_default.not-Some _ (c.run_sheet.ensures.0 ∙ written _ _ (omega arith)))
 
 pub slice_bounds-text-end : goal.slice_bounds-text-end
-slice_bounds-text-end g c = omega (arith, answer_fits _ _ _ (sym c.in-Written.is ∙ c.run_sheet.ensures.0))
+slice_bounds-text-end g c = omega (arith, answer_fits _ _ _ (sym c.in-Some.is ∙ c.run_sheet.ensures.0))
 
 pub slice_bounds-write_all-end : goal.slice_bounds-write_all-end
 slice_bounds-write_all-end g c =
-    sym (length-take-le _ _ (omega (arith, answer_fits _ _ _ (sym c.in-Written.is ∙ c.run_sheet.ensures.0))))
+    sym (length-take-le _ _ (omega (arith, answer_fits _ _ _ (sym c.in-Some.is ∙ c.run_sheet.ensures.0))))
 
 pub returns : goal.returns
 returns g c =
-    let count = count_of _ _ _ (omega arith) (sym c.in-Written.is ∙ c.run_sheet.ensures.0) in
-    let same : take c.in-Written.count c.run_sheet.new.out ≡ run_sheet c.args.sheet.now =
+    let count = count_of _ _ _ (omega arith) (sym c.in-Some.is ∙ c.run_sheet.ensures.0) in
+    let same : take c.in-Some.count c.run_sheet.new.out ≡ run_sheet c.args.sheet.now =
     rw (count, c.run_sheet.ensures.1) (front_of _ _ (omega arith)) in
     let bytes = rw same at c.write_all.ensures.bytes in
     search rules

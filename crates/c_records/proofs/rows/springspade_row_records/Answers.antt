@@ -1,10 +1,10 @@
 use Rattle.std.proofs.Common.{◌∙◌, ◌≤◌, ℕ, List, length, arith}
 use Rattle.base.specs.Outcome.{Outcome, accepted, refused, returned}
-use Rattle.c_border.specs.BorderLaws.{crossing_small}
+use Rattle.c_border.specs.BorderLaws.{crossed_as}
 use Rattle.cell_records.specs.declared.CellRecord.{CellRecord}
 use Rattle.record_row.specs.RecordRow.{row_with, cells_in, as_records, zeros, row_records}
 use Rattle.record_row.specs.declared.RowNumbers.{RowNumbers}
-use Rattle.row.specs.Row.{ModeInfo, mode_info, returned_of}
+use Rattle.row.specs.Row.{ModeInfo, mode_info}
 use Rattle.row.specs.RowLaws.{row_place}
 use Rattle.c_records.proofs.rows.springspade_row_records.Goals as goal
 
@@ -21,8 +21,7 @@ records_place m levels p records =
 
 pub returns : goal.returns
 returns c =
-    let f = c.row_records in
     let a = c.args in
+    let e = c.row_records.ensures in
     let small = records_place (mode_info a.mi_sizes.now a.tx_sizes.now a.skips.now a.ref_frames.now a.y_modes.now a.segment_ids.now) a.levels.now a.numbers a.records.now in
-    let place : (returned_of f.result).place ≤ 4294967295 = rw f.ensures.0 (omega arith) in
-    (c.refusal_of.ensures ∙ crossing_small (returned_of f.result) place ∙ f.ensures.0, f.ensures.1)
+    (crossed_as c.refusal_of.ensures e.0 (omega arith), e.1)
