@@ -23,7 +23,7 @@ fn clamped(lo: usize, n: usize, u: usize) -> usize
     requires { (0 < n) × (lo + n ≤ 65536) }
     ensures { (result ≡ clamp lo n (u - 8)) × (lo ≤ result) × (result < lo + n) }
 {
-    u.saturating_sub(8).clamp(lo, lo + n - 1)
+    (u.max(lo + 8) - 8).min(lo + n - 1)
 }
 
 // Whether a coordinate is one of the n numbers from lo on.
