@@ -8,26 +8,24 @@ ghost use Rattle.base.specs.Outcome.{Answers};
 ghost use Rattle.c_border.specs.Border.{numbers_of};
 ghost use Rattle.c_levels.specs.LevelEntry.{delta_at, params_of, segments_of, level_entry};
 
+use base::fault::Fault;
 use c_border::Refusal;
-use frame_header::{Delta, LoopFilterParams, SegmentationParams};
+use frame_header::{LoopFilterParams, SegmentationParams};
+use levels::loop_filter::level_table;
+use std::array;
 
-fn delta_at(deltas: &[i8], present: &[bool], k: usize) -> Delta
+fn delta_at(deltas: &[i8], present: &[bool], k: usize) -> Option<i8>
     requires { (k < length deltas.now) × (k < length present.now) }
     ensures { result ≡ delta_at deltas.now present.now k }
 {
-    Delta {
-        present: present[k],
-        value: deltas[k],
-    }
+    if present[k] { Some(deltas[k]) } else { None }
 }
 
-fn store_levels(table: [u8; 64], levels: &mut [u8])
+fn store_levels(table: &[u8; 64], levels: &mut [u8])
     requires { 64 ≤ length levels.old }
-    ensures { levels.new ≡ copied table 64 levels.old }
+    ensures { levels.new ≡ copied table.now 64 levels.old }
 {
-    for k in 0..64 {
-        levels[k] = table[k];
-    }
+    levels[..64].copy_from_slice(table);
 }
 
 fn loop_filter_params(
@@ -40,19 +38,14 @@ fn loop_filter_params(
     requires { (6 ≤ length deltas.now) × (6 ≤ length present.now) }
     ensures { result ≡ params_of level delta_enabled delta_update deltas.now present.now }
 {
-    let intra = delta_at(deltas, present, 0);
-    let last = delta_at(deltas, present, 1);
-    let golden = delta_at(deltas, present, 2);
-    let altref = delta_at(deltas, present, 3);
-    let zero_mv = delta_at(deltas, present, 4);
-    let other_mv = delta_at(deltas, present, 5);
+    let delta = |k| delta_at(deltas, present, k);
     LoopFilterParams {
         level,
         sharpness: 0,
         delta_enabled,
         delta_update,
-        ref_deltas: [intra, last, golden, altref],
-        mode_deltas: [zero_mv, other_mv],
+        ref_deltas: [delta(0), delta(1), delta(2), delta(3)],
+        mode_deltas: [delta(4), delta(5)],
     }
 }
 
@@ -65,17 +58,10 @@ fn segmentation_params(
     requires { (32 ≤ length flags.now) × (32 ≤ length numbers.now) }
     ensures { result ≡ segments_of enabled abs_or_delta_update flags.now numbers.now }
 {
-    let mut feature_enabled = [false; 32];
-    let mut feature_data = [0i16; 32];
-    for k in 0..32 {
-        feature_enabled[k] = flags[k];
-        feature_data[k] = numbers[k];
-    }
     SegmentationParams {
         enabled,
         abs_or_delta_update,
-        feature_enabled,
-        feature_data,
+        features: array::from_fn(|k| if flags[k] { Some(numbers[k]) } else { None }),
     }
 }
 
@@ -95,10 +81,7 @@ pub fn springspade_level_table(
     ensures { Answers (level_entry level delta_enabled delta_update deltas.now deltas_present.now seg_enabled abs_or_delta_update feature_enabled.now feature_data.now levels.old) (numbers_of result) levels.old levels.new }
 {
     if 63 < level {
-        return Refusal {
-            number: 6,
-            place: 0,
-        };
+        return Refusal::from(Fault::Level(0));
     }
     if (deltas.len() < 6)
         | (deltas_present.len() < 6)
@@ -106,10 +89,7 @@ pub fn springspade_level_table(
         | (feature_data.len() < 32)
         | (levels.len() < 64)
     {
-        return Refusal {
-            number: 7,
-            place: 0,
-        };
+        return Refusal::from(Fault::Short);
     }
     let lf = loop_filter_params(level, delta_enabled, delta_update, deltas, deltas_present);
     let seg = segmentation_params(
@@ -118,12 +98,14 @@ pub fn springspade_level_table(
         feature_enabled,
         feature_data,
     );
-    let made = levels::loop_filter::level_table(lf, seg);
-    let table = made.table;
-    let table_levels = table.levels;
-    store_levels(table_levels, levels);
-    Refusal {
-        number: 0,
-        place: 0,
+    match level_table(lf, seg) {
+        Ok(table) => {
+            store_levels(&table.levels, levels);
+            Refusal {
+                number: 0,
+                place: 0,
+            }
+        }
+        Err(fault) => Refusal::from(fault),
     }
 }

@@ -1,31 +1,24 @@
-use borrow.Author.Rules.{rules}
-use mathlib.Core.Bool.{false}
-use mathlib.Core.Path.{◌≡◌, ◌∙◌}
-use native.Mathlib.Omega.{arith}
-use lib.IntN.{pos}
-use lib.ListN.{replicate}
-use mir.Syntax.{w16}
-use Rattle.base.specs.Copied.{copied_none, copied_more, copied_whole}
-use Rattle.base.specs.Machine.{back}
+use Rattle.std.proofs.Common.{◌≡◌, refl, ◌∙◌, List, ℕ, zero, suc, ◌+◌, ◌<◌, get_or, None, arith, add-zero, zero-add, rules}
+use Rattle.std.specs.Array.{IsFromFnResultFrom}
+use Rattle.std.proofs.lemmas.List.FromFn.{fill_by_all}
+use denote.Param.Members.{Mut, Called}
+use Rattle.c_levels.specs.LevelEntry.{delta_at}
 use Rattle.c_levels.proofs.segmentation_params.Goals as goal
 
-pub loop-k-init : goal.loop-k-init
-loop-k-init c = (search rules, copied_none c.args.flags.now _, copied_none c.args.numbers.now _)
-
-pub loop-k-preserved : goal.loop-k-preserved
-loop-k-preserved c =
-    let a = c.args in
-    let l = c.loop-k in (
-      search rules,
-      rw l.invariant.1 (copied_more a.flags.now (replicate 32 false) l.k false (omega arith) (omega arith)),
-      rw (l.invariant.2, back w16 c.feature_data-1.given)
-          (copied_more a.numbers.now (replicate 32 (pos 0)) l.k (pos 0) (omega arith) (omega arith)),
-    )
+-- an array whose closure gives t i at the place i
+module _ {F B : Type 0} (g : Mut F (ℕ × Unit {0}) B) (t : ℕ → B) (Holds : F → Type 0) (gives : (p q : F) (i : ℕ) (y : B) → Holds p → Called g p (i, tt) y q → (y ≡ t i) × Holds q) where
+  entries : (f : F) (ys : List B) (i n : ℕ) (d : B) → Holds f → IsFromFnResultFrom g f ys i n → (k : ℕ) → k < n → get_or ys (i + k) d ≡ t (i + k)
+  entries f ys i zero d h r k l = absurd (omega arith)
+  entries f ys i (suc n) d h (q, y, at, call, rest) zero l = rw (add-zero i) (at.1 d ∙ (gives f q i y h call).0)
+  entries f ys i (suc n) d h (q, y, at, call, rest) (suc k) l =
+      let on : i + suc k ≡ i + 1 + k = omega arith in
+      rw on (entries q ys (i + 1) n d (gives f q i y h call).1 rest k (omega arith))
 
 pub returns : goal.returns
 returns c =
-    let a = c.args in
-    let all : c.loop-k.k ≡ 32 = omega arith in
-    let on = (rw all at c.loop-k.invariant.1) ∙ copied_whole a.flags.now (replicate 32 false) 32 (omega arith) in
-    let features = (rw all at c.loop-k.invariant.2) ∙ copied_whole a.numbers.now (replicate 32 (pos 0)) 32 (omega arith) in
-    rw (on, features)
+    let flags = c.args.flags.now in
+    let numbers = c.args.numbers.now in
+    let made = c.from_fn.ensures.items in
+    let at = entries _ (delta_at numbers flags) (λ p. (p.0.now ≡ flags) × (p.1.now ≡ numbers)) (λ p q i y h k. search rules) _ c.from_fn.result 0 32 None (refl, refl) made.each in
+    let all = fill_by_all (delta_at numbers flags) c.from_fn.result 32 None made.long (λ k h. rw (zero-add k) at (at k h)) in
+    rw all

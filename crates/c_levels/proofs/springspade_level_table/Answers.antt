@@ -5,6 +5,7 @@ use Prim.Native.Nat.{ℕ, ◌≤◌}
 use lib.Dec.{ltb}
 use lib.ListN.{length}
 use Rattle.base.specs.Tests.{neither}
+use Rattle.levels.specs.Levels.{frame_init, level_table}
 use Rattle.c_levels.specs.LevelEntry.{level_entry}
 use Rattle.c_levels.proofs.springspade_level_table.Goals as goal
 
@@ -26,11 +27,11 @@ long a b c d e h =
 
 pub returns-then-level-gt63 : goal.returns-then-level-gt63
 unfolding level_entry
-returns-then-level-gt63 c = rw (lt-ltb _ _ c.if-level-gt63.true) (refl, refl)
+returns-then-level-gt63 c = rw (lt-ltb _ _ c.if-level-gt63.true) (c.from.ensures, refl)
 
 pub returns-then-deltas-deltas_present : goal.returns-then-deltas-deltas_present
 unfolding level_entry
-returns-then-deltas-deltas_present c = rw (le-ltb _ _ c.if-level-gt63.false, c.if-deltas-deltas_present.true) (refl, refl)
+returns-then-deltas-deltas_present c = rw (le-ltb _ _ c.if-level-gt63.false, c.if-deltas-deltas_present.true) (c.from-then-deltas-deltas_present.ensures, refl)
 
 pub loop_filter_params-lf-requires : goal.loop_filter_params-lf-requires
 loop_filter_params-lf-requires c =
@@ -44,11 +45,16 @@ pub store_levels-requires : goal.store_levels-requires
 store_levels-requires c =
     let l = long (length c.args.deltas.now) (length c.args.deltas_present.now) (length c.args.feature_enabled.now) (length c.args.feature_data.now) (length c.args.levels.now) c.if-deltas-deltas_present.false in l.levels_long
 
-pub returns : goal.returns
+pub returns-in-Ok : goal.returns-in-Ok
 unfolding level_entry
-returns c =
-    rw (le-ltb _ _ c.if-level-gt63.false, c.if-deltas-deltas_present.false) (
-      refl,
-      rw (c.level_table-made.ensures.1, c.loop_filter_params-lf.ensures, c.segmentation_params-seg.ensures)
-          at c.store_levels.ensures,
-    )
+returns-in-Ok c =
+    let e = rw (c.loop_filter_params-lf.ensures, c.segmentation_params-seg.ensures) at c.in-Ok.ensures in
+    rw (le-ltb _ _ c.if-level-gt63.false, c.if-deltas-deltas_present.false, ← e) (refl, c.store_levels.ensures)
+
+-- a level that was tested is not refused again
+pub returns-in-Err : goal.returns-in-Err
+unfolding level_table frame_init
+returns-in-Err c =
+    let e = rw (c.loop_filter_params-lf.ensures, c.segmentation_params-seg.ensures) at c.in-Err.ensures in
+    let f = rw (le-ltb _ _ c.if-level-gt63.false) at e in
+    absurd cc

@@ -1,23 +1,10 @@
-use borrow.Author.Rules.{rules}
-use mathlib.Core.Path.{◌≡◌, refl}
-use native.Mathlib.Omega.{arith}
-use lib.ListN.{length-set}
-use Rattle.base.specs.Copied.{copied_none, copied_more}
+use Rattle.std.proofs.Common.{ap, ◌∙◌, sym, ◌++◌, drop, List, ℕ, arith, length-take-le}
+use lib.Seq.{take_all}
 use Rattle.c_levels.proofs.store_levels.Goals as goal
 
-pub loop-k-init : goal.loop-k-init
-loop-k-init c = (search rules, refl, copied_none c.args.table _)
-
-pub loop-k-preserved : goal.loop-k-preserved
-loop-k-preserved c =
-    let a = c.args in
-    let k = c.loop-k.k in (
-      search rules,
-      simp length-set c.loop-k.invariant.1,
-      rw c.loop-k.invariant.2 (copied_more a.table a.levels.now k 0 (search rules) (omega arith)),
-    )
+pub copy_from_slice-requires : goal.copy_from_slice-requires
+copy_from_slice-requires c = omega (arith, length-take-le 64 c.args.levels.now c.requires)
 
 pub returns : goal.returns
 returns c =
-    let all : c.loop-k.k ≡ 64 = omega arith in
-    rw all at c.loop-k.invariant.2
+    ap (λ (l : List ℕ). l ++ drop 64 c.args.levels.now) (c.copy_from_slice.ensures.after ∙ sym (take_all 64 c.args.table.now (omega arith)))
