@@ -117,7 +117,8 @@ pub fn wide_filter_six(t: &mut [u16; 16])
     t[Q2] = b[2];
 }
 
-// The samples of a side, counted from the edge.
+// The samples of a side, counted from the edge. A function for each: the check knows twelve reads of one function to be
+// in range, not sixteen.
 
 fn p_side(t: &[u16; 16]) -> [u16; 8]
     ensures { (result ≡ p_taps t.now) × AtMost 65535 result }
