@@ -7,6 +7,7 @@ ghost use Rattle.row.specs.Row.{mode_info};
 use c_border::{Refusal, refusal_of};
 use cell_records::CellRecord;
 use record_row::{RowNumbers, row_records};
+use row::mode_info::ModeInfoLists;
 
 // As springspade_row, into cell records in place of words, with the numbers in a record.
 pub fn springspade_row_records(
@@ -22,15 +23,13 @@ pub fn springspade_row_records(
 ) -> Refusal
     ensures { Answers (row_records (mode_info mi_sizes.now tx_sizes.now skips.now ref_frames.now y_modes.now segment_ids.now) levels.now numbers records.old) (numbers_of result) records.old records.new }
 {
-    refusal_of(row_records(
+    let lists = ModeInfoLists {
         mi_sizes,
         tx_sizes,
         skips,
         ref_frames,
         y_modes,
         segment_ids,
-        levels,
-        numbers,
-        records,
-    ))
+    };
+    refusal_of(row_records(lists, levels, numbers, records))
 }

@@ -1,4 +1,4 @@
-use Rattle.std.proofs.Common.{◌∙◌, ◌≤◌, ℕ, List, length, arith}
+use Rattle.std.proofs.Common.{◌≤◌, ℕ, List, length, arith}
 use Rattle.base.specs.Outcome.{Outcome, accepted, refused, returned}
 use Rattle.c_border.specs.BorderLaws.{crossed_as}
 use Rattle.cell_records.specs.declared.CellRecord.{CellRecord}
