@@ -45,9 +45,8 @@ pub(crate) fn is_equal(record: &[u8; 178]) -> bool {
         Err(fault) => fault.number(),
     };
     let found = answer.unwrap_or(LvlLookup::zeros());
-    let are_levels = record[114..]
-        .iter()
-        .zip(&found.levels)
-        .all(|(level, found)| (*level == NOT_COMPARED) | (level == found));
+    let are_levels = record[114..].iter().zip(&found.levels).all(|(level, found)| (*level
+        == NOT_COMPARED)
+        | (level == found));
     (number == u32::from(record[113])) & are_levels
 }

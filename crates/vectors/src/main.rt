@@ -53,7 +53,13 @@ fn main(rt: HostRuntime) -> io::Result<()> {
     replay(&rt, alloc, "rows.bin", "", row_record::is_equal)?;
     replay(&rt, alloc, "edges.bin", "", edge_record::is_equal)?;
     replay(&rt, alloc, "passes.bin", "", pass_record::is_equal)?;
-    replay(&rt, alloc, "byte_passes.bin", "", byte_pass_record::is_equal)?;
+    replay(
+        &rt,
+        alloc,
+        "byte_passes.bin",
+        "",
+        byte_pass_record::is_equal,
+    )?;
     replay(&rt, alloc, "sheets.bin", "", sheet_record::is_equal)?;
     replay_record_forms(&rt, alloc)
 }

@@ -95,7 +95,7 @@ pub(crate) fn is_equal(record: &[u8; 492]) -> bool {
 }
 
 // A word before may have zero bits set, which no record holds: they are not compared. The row sets none.
-fn are_records(record: &[u8; 492], records: [CellRecord; ENTRIES]) -> bool {
+fn are_records(record: &[u8; 492], records: &[CellRecord; ENTRIES]) -> bool {
     let after = words_at(record, 396);
     records
         .iter()
@@ -103,17 +103,18 @@ fn are_records(record: &[u8; 492], records: [CellRecord; ENTRIES]) -> bool {
         .all(|(made, word)| word_of(*made) == *word / 4096 * 4096)
 }
 
-// As is_equal, with cell records in place of words.
+// As is_equal, with cell records in place of words. A refused row hands none out: those before it stand for them.
 pub(crate) fn is_equal_in_records(record: &[u8; 492]) -> bool {
     let references = references_of(record);
-    let (answer, records) = row_front_unchecked(
+    let before = words_at(record, 300).map(record_of);
+    let made = row_front_unchecked(
         lists_of(record, &references),
         &levels_of(record),
         numbers_of(record),
-        words_at(record, 300).map(record_of),
+        before,
         length_at(record, 16),
     );
     are_lengths(record)
-        & is_answer(answer, record[17], usize::from(record[18]))
-        & are_records(record, records)
+        & is_answer(made.map(|_| ()), record[17], usize::from(record[18]))
+        & are_records(record, &made.unwrap_or(before))
 }
