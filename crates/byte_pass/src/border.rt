@@ -1,13 +1,12 @@
 // Positions at the border of the window, one by one.
 ghost use Rattle.std.specs.Prelude.{◌≡◌, ◌+◌, ◌≤◌, ◌<◌, length, get_or};
 ghost use Rattle.pass.specs.Chunks.{key_stencil, keyed_run};
-ghost use Rattle.strength.specs.StrengthLaws.{Limits};
 ghost use Rattle.window.specs.Stencil.{applied, in_turn};
 ghost use Rattle.window.specs.WindowLaws.{Lent};
 ghost use Rattle.byte_lanes.specs.ByteLanes.{Keys};
 
 use border_position::filter_position_unchecked;
-use strength::strength_by_unchecked;
+use strength::LimitTable;
 use tap_places::position::Position;
 use tap_places::run_start::RunStart;
 use window::WindowShape;
@@ -18,15 +17,15 @@ fn filter_keyed(
     g: WindowShape,
     p: Position,
     sharpness: u8,
-    limits: &[u8; 512],
+    limits: &LimitTable,
     key: u8,
 )
-    requires { Lent g (length samples.old) × (sharpness ≤ 7) × Limits limits.now × (key < 192) }
+    requires { Lent g (length samples.old) × (sharpness ≤ 7) × (key < 192) }
     ensures { samples.new ≡ applied (key_stencil g p.pass p.x p.y sharpness 8 key) samples.old }
 {
     let level = key % 64;
     if 0 < level {
-        let strength = strength_by_unchecked(limits, level, sharpness);
+        let strength = limits.strength_unchecked(level, sharpness);
         filter_position_unchecked(samples, g, p, 8, key / 64, strength);
     }
 }
@@ -37,12 +36,12 @@ pub(crate) fn filter_border(
     g: WindowShape,
     start: RunStart,
     sharpness: u8,
-    limits: &[u8; 512],
+    limits: &LimitTable,
     keys: &[u8; 16],
     first: usize,
     count: usize,
 )
-    requires { Lent g (length samples.old) × (sharpness ≤ 7) × Limits limits.now × Keys keys.now × (first + count ≤ 16) }
+    requires { Lent g (length samples.old) × (sharpness ≤ 7) × Keys keys.now × (first + count ≤ 16) }
     ensures { samples.new ≡ in_turn (λ k. keyed_run g start.pass start.x start.y sharpness 8 (λ j. get_or keys.now j 0) (first + k)) count samples.old }
 {
     for j in 0..count {

@@ -3,7 +3,6 @@ ghost use Rattle.std.specs.Prelude.{◌≡◌, true, ◌+◌, ◌*◌, ◌/◌, 
 ghost use Rattle.pass.specs.Chunks.{keyed_run, chunk};
 ghost use Rattle.pass.specs.WorkLaws.{Able};
 ghost use Rattle.pass_edges.specs.PassEdges.{edge_count, edge_len};
-ghost use Rattle.strength.specs.StrengthLaws.{Limits};
 ghost use Rattle.window.specs.InsideRun.{inside_run};
 ghost use Rattle.window.specs.Stencil.{in_turn};
 ghost use Rattle.window.specs.WindowLaws.{Lent};
@@ -14,6 +13,7 @@ use crate::chunk_keys::{chunk_filters, chunk_keys};
 use byte_chunks::filter_chunk_unchecked;
 use geometry::{Pass, Superblock};
 use positions::EdgePosition;
+use strength::LimitTable;
 use tap_places::run_start::RunStart;
 use window::WindowShape;
 
@@ -47,10 +47,10 @@ fn filter_at(
     g: WindowShape,
     start: RunStart,
     sharpness: u8,
-    limits: &[u8; 512],
+    limits: &LimitTable,
     keys: &[u8; 16],
 )
-    requires { Lent g (length samples.old) × (sharpness ≤ 7) × Limits limits.now × Keys keys.now }
+    requires { Lent g (length samples.old) × (sharpness ≤ 7) × Keys keys.now }
     ensures { samples.new ≡ in_turn (keyed_run g start.pass start.x start.y sharpness 8 (λ j. get_or keys.now j 0)) 16 samples.old }
 {
     let n = start.inside_count_unchecked(g);
@@ -67,12 +67,12 @@ pub(crate) fn filter_chunk(
     s: Superblock,
     pass: Pass,
     sharpness: u8,
-    limits: &[u8; 512],
+    limits: &LimitTable,
     keys: &keys::Keys,
     edge: usize,
     m: usize,
 )
-    requires { Able g s sharpness 8 samples.old × (edge < edge_count s pass) × (m < edge_len s pass / 16) × Limits limits.now }
+    requires { Able g s sharpness 8 samples.old × (edge < edge_count s pass) × (m < edge_len s pass / 16) }
     ensures { samples.new ≡ chunk g s pass sharpness 8 keys.now.outer keys.now.inner edge (16 * m) 16 samples.old }
 {
     if chunk_filters(keys, s, pass, edge, m) {

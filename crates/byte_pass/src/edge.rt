@@ -3,13 +3,12 @@ ghost use Rattle.std.specs.Prelude.{◌≡◌, ◌/◌, ◌<◌};
 ghost use Rattle.pass.specs.Chunks.{edge_chunks, pass_chunks};
 ghost use Rattle.pass.specs.WorkLaws.{Able};
 ghost use Rattle.pass_edges.specs.PassEdges.{edge_count, edge_len};
-ghost use Rattle.strength.specs.StrengthLaws.{Limits};
 
 use crate::chunk::filter_chunk;
 use geometry::{Pass, Superblock};
 use keys::Keys;
 use pass_edges::{edge_count, edge_len};
-use strength::limits_table;
+use strength::{LimitTable, limits_table};
 use window::WindowShape;
 
 fn filter_edge(
@@ -18,11 +17,11 @@ fn filter_edge(
     s: Superblock,
     pass: Pass,
     sharpness: u8,
-    limits: &[u8; 512],
+    limits: &LimitTable,
     keys: &Keys,
     edge: usize,
 )
-    requires { Able g s sharpness 8 samples.old × (edge < edge_count s pass) × Limits limits.now }
+    requires { Able g s sharpness 8 samples.old × (edge < edge_count s pass) }
     ensures { samples.new ≡ edge_chunks g s pass sharpness 8 keys.now.outer keys.now.inner edge (edge_len s pass / 16) samples.old }
 {
     let count = edge_len(s, pass) / 16;

@@ -4,7 +4,6 @@ ghost use Rattle.decided.specs.CellWalk.{key_kept, edge_cells};
 ghost use Rattle.decided.specs.KeyRuns.{key_runs};
 ghost use Rattle.decided.specs.RunsLaws.{Small};
 ghost use Rattle.pass_edges.specs.PassEdges.{edge_count};
-ghost use Rattle.strength.specs.StrengthLaws.{Limits};
 ghost use Rattle.pass.specs.WorkLaws.{Able, run_filtered, runs_filtered};
 ghost use Rattle.pass.specs.WalkLaws.{Walk};
 
@@ -14,7 +13,7 @@ use keys::Keys;
 use pass_edges::edge_count;
 use positions::EdgePosition;
 use runs::filter_run_unchecked;
-use strength::{limits_table, strength_by_unchecked};
+use strength::{LimitTable, limits_table};
 use window::WindowShape;
 
 // Level 0 filters nothing.
@@ -25,10 +24,10 @@ fn filter_pending(
     pass: Pass,
     sharpness: u8,
     depth: u8,
-    limits: &[u8; 512],
+    limits: &LimitTable,
     a: EdgeRun,
 )
-    requires { Able g s sharpness depth samples.old × Small a × Limits limits.now }
+    requires { Able g s sharpness depth samples.old × Small a }
     ensures { samples.new ≡ run_filtered g s pass sharpness depth a samples.old }
 {
     if 0 < a.level {
@@ -40,7 +39,7 @@ fn filter_pending(
         };
         let x = start.plane_x();
         let y = start.plane_y();
-        let strength = strength_by_unchecked(limits, a.level, sharpness);
+        let strength = limits.strength_unchecked(a.level, sharpness);
         filter_run_unchecked(samples, g, pass, x, y, a.count, depth, a.size, strength);
     }
 }
@@ -54,13 +53,13 @@ fn filter_cell(
     pass: Pass,
     sharpness: u8,
     depth: u8,
-    limits: &[u8; 512],
+    limits: &LimitTable,
     key: u8,
     edge: usize,
     c: usize,
     pending: EdgeRun,
 ) -> EdgeRun
-    requires { Able g s sharpness depth samples.old × (key < 192) × (edge < edge_count s pass) × (c < 8) × Small pending × Limits limits.now }
+    requires { Able g s sharpness depth samples.old × (key < 192) × (edge < edge_count s pass) × (c < 8) × Small pending }
     ensures { Walk g s pass sharpness depth (key_kept s pass key edge c) pending samples.old samples.new result }
 {
     if key % 64 == 0 {
@@ -89,12 +88,12 @@ fn filter_edge(
     pass: Pass,
     sharpness: u8,
     depth: u8,
-    limits: &[u8; 512],
+    limits: &LimitTable,
     keys: &Keys,
     edge: usize,
     start: EdgeRun,
 ) -> EdgeRun
-    requires { Able g s sharpness depth samples.old × (edge < edge_count s pass) × Small start × Limits limits.now }
+    requires { Able g s sharpness depth samples.old × (edge < edge_count s pass) × Small start }
     ensures { Walk g s pass sharpness depth (edge_cells s pass keys.now.outer keys.now.inner edge 8) start samples.old samples.new result }
 {
     let mut pending = start;

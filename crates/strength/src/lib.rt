@@ -36,24 +36,31 @@ pub fn mode_to_mode_type(mode: u8) -> usize
     usize::from(matches!(mode, NEARESTMV | NEARMV | NEWMV))
 }
 
-// A caller with many levels takes the limits once: the compiler lays a constant array on the stack where it is read.
-pub fn limits_table() -> [u8; 512]
-    ensures { Limits result }
-{
-    LIMITS
+// The limits of all levels at all sharpnesses.
+#[derive(Clone, Copy)]
+pub struct LimitTable {
+    limits: [u8; 512],
+    pub ghost ruled: { Limits limits },
 }
 
-// The work without the tests, by a table that limits_table gave.
-pub fn strength_by_unchecked(limits: &[u8; 512], lvl: u8, sharpness: u8) -> FilterStrength
-    requires { Limits limits.now × (lvl ≤ 63) × (sharpness ≤ 7) }
-    ensures { result ≡ strength_of lvl sharpness }
-{
-    let limit = limits[sharpness as usize * 64 + lvl as usize];
-    FilterStrength {
-        lvl,
-        limit,
-        blimit: 2 * (lvl + 2) + limit,
-        thresh: lvl / 16,
+// A caller with many levels takes the table once: the compiler lays a constant array on the stack where it is read.
+pub fn limits_table() -> LimitTable {
+    LimitTable { limits: LIMITS }
+}
+
+impl LimitTable {
+    // The work without the tests.
+    pub fn strength_unchecked(&self, lvl: u8, sharpness: u8) -> FilterStrength
+        requires { (lvl ≤ 63) × (sharpness ≤ 7) }
+        ensures { result ≡ strength_of lvl sharpness }
+    {
+        let limit = self.limits[sharpness as usize * 64 + lvl as usize];
+        FilterStrength {
+            lvl,
+            limit,
+            blimit: 2 * (lvl + 2) + limit,
+            thresh: lvl / 16,
+        }
     }
 }
 
@@ -68,5 +75,5 @@ pub fn strength_for_level(lvl: u8, sharpness: u8) -> Result<FilterStrength, Faul
     if 63 < lvl {
         return Err(Fault::Level(0));
     }
-    Ok(strength_by_unchecked(&limits_table(), lvl, sharpness))
+    Ok(limits_table().strength_unchecked(lvl, sharpness))
 }

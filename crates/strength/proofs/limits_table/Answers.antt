@@ -22,9 +22,11 @@ placed lvl sharpness h = rw (level, sharp)
     sharp : (sharpness * 64 + lvl) / 64 ≡ sharpness
     sharp = omega arith
 
-pub returns : goal.returns
+pub invariant_of-result : goal.invariant_of-result
 unfolding limit_at limit_of clip3
-returns c = record {
-  long = refl;
-  limit = λ lvl sharpness h k. let below : sharpness * 64 + lvl < 512 = omega arith in rw (entry limit_at) (placed lvl sharpness h);
+invariant_of-result c = record {
+  ruled = record {
+    long = refl;
+    limit = λ lvl sharpness h k. let below : sharpness * 64 + lvl < 512 = omega arith in rw (entry limit_at) (placed lvl sharpness h);
+  };
 }

@@ -16,7 +16,7 @@ filter_chunk-requires c =
     let len = at-loop in
     let start = len in
     let p = start.requires in
-    (rw at-loop.loop-m.invariant.1 (edge_chunks_able _ _ _ _ _ _ _ _ _ _ p.0), p.1, rw len.edge_len-count.ensures.0 at c.loop-m-test.true, p.2)
+    (rw at-loop.loop-m.invariant.1 (edge_chunks_able _ _ _ _ _ _ _ _ _ _ p.0), p.1, rw len.edge_len-count.ensures.0 at c.loop-m-test.true)
 
 pub loop-m-preserved : goal.loop-m-preserved
 loop-m-preserved c =

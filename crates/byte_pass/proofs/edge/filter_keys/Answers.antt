@@ -15,7 +15,7 @@ filter_edge-requires c =
     let at-loop = c in
     let limits = at-loop in
     let p = limits.requires in
-    (rw at-loop.loop-edge.invariant.1 (pass_chunks_able _ _ _ _ _ _ _ _ _ p), rw limits.edge_count-count.ensures.0 at c.loop-edge-test.true, limits.limits_table-limits.ensures)
+    (rw at-loop.loop-edge.invariant.1 (pass_chunks_able _ _ _ _ _ _ _ _ _ p), rw limits.edge_count-count.ensures.0 at c.loop-edge-test.true)
 
 pub loop-edge-preserved : goal.loop-edge-preserved
 loop-edge-preserved c =

@@ -26,7 +26,7 @@ returns-then-joins_unchecked c =
     _ (sym test.joins_unchecked.ensures ∙ c.if-joins_unchecked.true) c.longer_unchecked.ensures
 
 pub filter_pending-requires : goal.filter_pending-requires
-filter_pending-requires c = let p = c.requires in (p.0, search rules, p.5)
+filter_pending-requires c = let p = c.requires in (p.0, search rules)
 
 pub returns : goal.returns
 returns c =

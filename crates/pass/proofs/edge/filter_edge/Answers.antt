@@ -20,7 +20,7 @@ pub filter_cell-pending-requires : goal.filter_cell-pending-requires
 filter_cell-pending-requires c =
     let start = c in
     let loop = c.loop-c in
-    (walk_able loop.invariant.1 start.requires.0, c.key_at_unchecked-key.ensures.1, start.requires.1, c.loop-c-test.true, loop.invariant.1.small, start.requires.3)
+    (walk_able loop.invariant.1 start.requires.0, c.key_at_unchecked-key.ensures.1, start.requires.1, c.loop-c-test.true, loop.invariant.1.small)
 
 pub loop-c-preserved : goal.loop-c-preserved
 loop-c-preserved c =

@@ -18,7 +18,7 @@ filter_edge-pending-requires c =
     let loop = c.loop-edge in
     let limits = c in
     let start = limits in
-    (walk_able loop.invariant.1 start.requires, rw limits.edge_count-count.ensures.0 at c.loop-edge-test.true, loop.invariant.1.small, limits.limits_table-limits.ensures)
+    (walk_able loop.invariant.1 start.requires, rw limits.edge_count-count.ensures.0 at c.loop-edge-test.true, loop.invariant.1.small)
 
 pub loop-edge-preserved : goal.loop-edge-preserved
 loop-edge-preserved c =
@@ -33,7 +33,7 @@ pub filter_pending-requires : goal.filter_pending-requires
 filter_pending-requires c =
     let loop = c.loop-edge in
     let limits = c in
-    (walk_able loop.invariant.1 limits.requires, loop.invariant.1.small, limits.limits_table-limits.ensures)
+    (walk_able loop.invariant.1 limits.requires, loop.invariant.1.small)
 
 pub returns : goal.returns
 returns c =

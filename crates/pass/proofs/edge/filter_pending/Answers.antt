@@ -3,8 +3,8 @@ use Rattle.window.specs.RangeLaws.{range_wider}
 use Rattle.pass.specs.WorkLaws.{filtered_on, filtered_off, depth_12}
 use Rattle.pass.proofs.edge.filter_pending.Goals as goal
 
-pub strength_by_unchecked-strength-requires : goal.strength_by_unchecked-strength-requires
-strength_by_unchecked-strength-requires c = let p = c.requires in (p.2, p.1.level, p.0.sharp)
+pub strength_unchecked-strength-requires : goal.strength_unchecked-strength-requires
+strength_unchecked-strength-requires c = let p = c.requires in (p.1.level, p.0.sharp)
 
 pub filter_run_unchecked-requires : goal.filter_run_unchecked-requires
 filter_run_unchecked-requires c =
@@ -15,7 +15,7 @@ pub returns-then-a-gt0 : goal.returns-then-a-gt0
 returns-then-a-gt0 c =
     let a = c.args in
     filtered_on a.g a.s a.pass a.sharpness a.depth a.a c.if-a-gt0.true _ _ _
-    c.plane_x-x.ensures.0 c.plane_y-y.ensures.0 c.strength_by_unchecked-strength.ensures _ _ c.filter_run_unchecked.ensures
+    c.plane_x-x.ensures.0 c.plane_y-y.ensures.0 c.strength_unchecked-strength.ensures _ _ c.filter_run_unchecked.ensures
 
 pub returns-else-a-gt0 : goal.returns-else-a-gt0
 returns-else-a-gt0 c =
