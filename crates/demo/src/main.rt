@@ -60,9 +60,7 @@ fn print_strength(rt: &impl Print, lvl: u8, sharpness: u8) -> Result<()> {
     let found = strength_for_level(lvl, sharpness)?;
     println!(rt;
         "level {lvl} sharpness {sharpness}: limit {}, blimit {}, thresh {}",
-        found.limit,
-        found.blimit,
-        found.thresh
+        found.limit, found.blimit, found.thresh
     )?;
     Ok(())
 }
