@@ -36,15 +36,20 @@ impl LvlLookup {
 pub fn find_level(levels: &[u8; 64], segment_id: usize, ref_frame: i32, mode: usize) -> Option<u8>
     ensures { result ≡ lookup_of levels.now segment_id ref_frame mode }
 {
-    let Ok(reference) = usize::try_from(ref_frame) else {
-        return None;
-    };
-    if LvlLookup::MAX_SEGMENTS <= segment_id
-        || LvlLookup::MAX_MODE_LF_DELTAS <= mode
-        || LvlLookup::MAX_REF_FRAMES <= reference
-    {
+    // Not usize::try_from, which made the loop over a row's cells slower.
+    if LvlLookup::MAX_SEGMENTS <= segment_id {
         return None;
     }
-    let at = segment_id * 8 + reference * 2 + mode;
+    if LvlLookup::MAX_MODE_LF_DELTAS <= mode {
+        return None;
+    }
+    if ref_frame < 0 {
+        return None;
+    }
+    let r = ref_frame as usize;
+    if LvlLookup::MAX_REF_FRAMES <= r {
+        return None;
+    }
+    let at = segment_id * 8 + r * 2 + mode;
     Some(levels[at])
 }

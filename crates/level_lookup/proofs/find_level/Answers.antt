@@ -1,36 +1,45 @@
-use Rattle.std.proofs.Common.{◌≡◌, ⊎_elim, ◌⊎◌, inl, inr, ◌<◌, ◌≤◌, ◌^◌, ◌+◌, ◌*◌, List, ℕ, ℤ, pos, negsuc, None, Some, get_or, nat_abs, arith, to_z-of_z}
-use Rattle.std.specs.Int.Signed.{mag}
-use Rattle.std.specs.Int.{FitsUnsignedBits}
-use Rattle.level_lookup.specs.LevelLookup.{level_at, lookup_of}
-use Rattle.level_lookup.specs.LevelLookupLaws.{lookup_entry, lookup_segment, lookup_large, lookup_negative, lookup_mode}
+use borrow.Author.Tests.{lt-ltb, le-ltb}
+use native.Mathlib.Omega.{arith}
+use lib.Signed.{nat_abs-le}
+use mir.Facts.{to_z-of_z}
+use Rattle.level_lookup.specs.LevelLookup.{lookup_of}
+use Rattle.level_lookup.specs.LevelLookupLaws.{not_negative}
 use Rattle.level_lookup.proofs.find_level.Goals as goal
 
-module _ (levels : List ℕ) (segment mode : ℕ) where
-  below_0 : (ref : ℤ) → mag ref < 2 ^ 31 → (FitsUnsignedBits 64 ref → ⊥) → None ≡ lookup_of levels segment ref mode
-  below_0 (pos n) m h = absurd (h (omega arith))
-  below_0 (negsuc n) m h = rw (lookup_negative levels segment n mode)
-
-  outside : (ref : ℤ) → FitsUnsignedBits 64 ref → (8 ≤ segment) ⊎ ((segment < 8 × 2 ≤ mode) ⊎ (segment < 8 × mode < 2 × 4 ≤ nat_abs ref)) → None ≡ lookup_of levels segment ref mode
-  outside (negsuc n) f h = absurd f
-  outside (pos n) f (inl h) = rw (lookup_segment levels segment (pos n) mode h)
-  outside (pos n) f (inr (inl h)) = rw (lookup_mode levels segment n mode h.1)
-  outside (pos n) f (inr (inr h)) = rw (lookup_large levels segment n mode h.2)
-
-  inside : (ref : ℤ) → FitsUnsignedBits 64 ref → segment < 8 → nat_abs ref < 4 → mode < 2 → Some (get_or levels (level_at segment (nat_abs ref) mode) 0) ≡ lookup_of levels segment ref mode
-  inside (negsuc n) f p q r = absurd f
-  inside (pos n) f p q r = rw (lookup_entry levels segment n mode p q r)
-
-pub returns-in_default : goal.returns-in_default
-returns-in_default c =
-    let fits = c.ranges.ref_frame in
-    below_0 _ _ _ _ fits.sfits (rw (to_z-of_z fits) at c.in_default.ensures)
-
 pub returns-then-segment_id-ge-MAX_SEGMENTS : goal.returns-then-segment_id-ge-MAX_SEGMENTS
-returns-then-segment_id-ge-MAX_SEGMENTS c =
-    let told = rw (to_z-of_z c.ranges.ref_frame) at c.in-Ok.ensures in
-    outside _ _ _ _ told.0 (rw told.1 at c.then-segment_id-ge-MAX_SEGMENTS.either)
+unfolding lookup_of
+returns-then-segment_id-ge-MAX_SEGMENTS c = rw (le-ltb _ _ c.if-segment_id-ge-MAX_SEGMENTS.true)
+
+pub returns-then-mode-ge-MAX_MODE_LF_DELTAS : goal.returns-then-mode-ge-MAX_MODE_LF_DELTAS
+unfolding lookup_of
+returns-then-mode-ge-MAX_MODE_LF_DELTAS c = rw (lt-ltb _ _ c.if-segment_id-ge-MAX_SEGMENTS.false, le-ltb _ _ c.if-mode-ge-MAX_MODE_LF_DELTAS.true)
+
+pub returns-then-ref_frame-lt0 : goal.returns-then-ref_frame-lt0
+unfolding lookup_of
+returns-then-ref_frame-lt0 c =
+    let negative = rw (to_z-of_z c.ranges.ref_frame) at c.if-ref_frame-lt0.true in
+    rw (lt-ltb _ _ c.if-segment_id-ge-MAX_SEGMENTS.false, lt-ltb _ _ c.if-mode-ge-MAX_MODE_LF_DELTAS.false, negative)
+
+pub overflow_cast-r : goal.overflow_cast-r
+overflow_cast-r c =
+    let fits = c.ranges.ref_frame in
+    let ref = c.args.ref_frame in
+    rw (to_z-of_z fits)
+    (not_negative ref (rw (to_z-of_z fits) at c.if-ref_frame-lt0.false), record { fits = omega (arith, nat_abs-le ref fits.sfits) })
+
+pub returns-then-r-ge-MAX_REF_FRAMES : goal.returns-then-r-ge-MAX_REF_FRAMES
+unfolding lookup_of
+returns-then-r-ge-MAX_REF_FRAMES c =
+    let fits = c.ranges.ref_frame in
+    let ordinal = rw (to_z-of_z fits) at c.if-ref_frame-lt0.false in
+    let large = rw (to_z-of_z fits) at c.if-r-ge-MAX_REF_FRAMES.true in
+    rw (lt-ltb _ _ c.if-segment_id-ge-MAX_SEGMENTS.false, lt-ltb _ _ c.if-mode-ge-MAX_MODE_LF_DELTAS.false, ordinal, le-ltb _ _ large)
 
 pub returns : goal.returns
+unfolding lookup_of
 returns c =
-    let told = rw (to_z-of_z c.ranges.ref_frame) at c.in-Ok.ensures in
-    rw told.1 (inside _ _ _ _ told.0 c.if-segment_id-ge-MAX_SEGMENTS.false (rw told.1 at c.if-reference-ge-MAX_REF_FRAMES.false) c.if-mode-ge-MAX_MODE_LF_DELTAS.false)
+    let a = c in
+    let fits = a.ranges.ref_frame in
+    let ordinal = rw (to_z-of_z fits) at c.if-ref_frame-lt0.false in
+    let small = rw (to_z-of_z fits) at c.if-r-ge-MAX_REF_FRAMES.false in
+    rw (to_z-of_z fits, lt-ltb _ _ a.if-segment_id-ge-MAX_SEGMENTS.false, lt-ltb _ _ c.if-mode-ge-MAX_MODE_LF_DELTAS.false, ordinal, lt-ltb _ _ small)
