@@ -6,13 +6,10 @@ ghost use Rattle.std.specs.Io.KnownBytes.{Appends};
 ghost use Rattle.sheet.specs.Sheet.{run_sheet};
 
 use anyhow::{Context, Result};
+use reading::read_full;
 use sheet::run_sheet;
-use std::alloc::Global;
 use std::io;
 use std::io::{Read, Write};
-
-// The largest sheet has 8 bytes and 8,192 words.
-const LARGEST: u64 = 32776;
 
 fn print_sheet<W: Write>(out: &mut W, sheet: &[u8]) -> Result<()>
     ensures { OnOk result (Appends (W.contents out.old) (W.contents out.new) (run_sheet sheet.now)) }
@@ -26,15 +23,13 @@ fn print_sheet<W: Write>(out: &mut W, sheet: &[u8]) -> Result<()>
 }
 
 // Reads until the input ends or the largest sheet is read: what lies behind it counts for nothing.
-fn read_and_print<R: Read, W: Write>(alloc: Global, input: &mut R, out: &mut W) -> Result<()> {
-    let mut sheet = Vec::new(alloc);
-    input
-        .take(LARGEST)
-        .read_to_end(&mut sheet)
-        .context("the sheet could not be read")?;
-    print_sheet(out, &sheet)
+fn read_and_print<R: Read, W: Write>(input: &mut R, out: &mut W) -> Result<()> {
+    // The largest sheet has 8 bytes and 8,192 words.
+    let mut sheet = [0u8; 32776];
+    let count = read_full(input, &mut sheet).context("the sheet could not be read")?;
+    print_sheet(out, &sheet[..count])
 }
 
 fn main(rt: HostRuntime) -> Result<()> {
-    read_and_print(rt.alloc(), &mut rt.stdin(), &mut io::writer(&rt))
+    read_and_print(&mut rt.stdin(), &mut io::writer(&rt))
 }

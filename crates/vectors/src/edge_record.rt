@@ -41,7 +41,7 @@ fn are_facts(record: &[u8; 46], found: SuperblockFilterEdge) -> bool {
         u8::from(found.apply_filter),
         found.size,
     ];
-    are_coordinates(record, found) & (record[40..46] == flags)
+    are_coordinates(record, found) & (record[40..46] == flags[..])
 }
 
 // A refused position has no facts to compare. The place is 0 for every answer.

@@ -1,18 +1,19 @@
 // Reads a file of records, counts those that the library answers as they say, and prints the count.
-ghost use Rattle.std.specs.Prelude.{◌≡◌, ℕ, ◌≤◌, ◌<◌, ◌+◌, ◌^◌, length, IfSome};
-
-use std::alloc::Global;
+use reading::read_full;
 use std::fs::File;
 use std::io::Read;
 use std::rt::Files;
 use std::{fmt, io};
 
+// A proved loop has to end, and nothing says that a file does. No file has so many records.
+const MOST_RECORDS: u64 = 100000;
+
 // How many records there are, how many are equal, and the first that is different, counted from 0.
 #[derive(Clone, Copy)]
 struct Tally {
-    records: usize,
-    equal: usize,
-    different: Option<usize>,
+    records: u64,
+    equal: u64,
+    different: Option<u64>,
 }
 
 impl fmt::Display for Tally {
@@ -25,81 +26,78 @@ impl fmt::Display for Tally {
     }
 }
 
-impl Tally {
-    // The tally with one record more.
-    fn with(self, is_equal: bool) -> Tally
-        requires { (self.records < 2 ^ 63) × (self.equal ≤ self.records) }
-        ensures { (result.records ≡ self.records + 1) × (result.equal ≤ result.records) }
-    {
-        if is_equal {
-            return Tally {
-                records: self.records + 1,
-                equal: self.equal + 1,
-                different: self.different,
-            };
-        }
-        Tally {
-            records: self.records + 1,
-            equal: self.equal,
-            different: self.different.or(Some(self.records)),
-        }
-    }
-}
-
 // What a file is a list of.
-pub(crate) trait Record: Sized {
-    ghost size: { ℕ };
+pub(crate) trait Record: Copy {
+    fn zeros() -> Self;
 
-    // The first record, and what is behind it.
-    fn split(file: &[u8]) -> Option<(&Self, &[u8])>
-        ensures { IfSome result (λ p. length p.1.now + size ≡ length file.now) };
+    fn bytes(&mut self) -> &mut [u8];
 }
 
 impl<const N: usize> Record for [u8; N] {
-    ghost size = { N };
+    fn zeros() -> [u8; N] {
+        [0; N]
+    }
 
-    fn split(file: &[u8]) -> Option<(&[u8; N], &[u8])> {
-        file.split_first_chunk::<N>()
+    fn bytes(&mut self) -> &mut [u8] {
+        &mut self[..]
     }
 }
 
-// A record that the file's end cuts short is different.
-fn tally_of<R: Record, F: Fn(&R) -> bool>(file: &[u8], is_equal: F) -> Tally
-    requires callable { F.IsAlwaysCallable is_equal }
-    requires some { 0 < R.size }
+// Whether the next record is equal, or nothing at the file's end. A record that the end cuts short is different.
+fn next_equal<R: Record, F: Fn(&R) -> bool>(
+    input: &mut impl Read,
+    is_equal: &F,
+) -> io::Result<Option<bool>>
+    requires { F.IsAlwaysCallable is_equal.now }
 {
-    let mut tally = Tally {
-        records: 0,
-        equal: 0,
-        different: None,
-    };
-    let mut rest = file;
-    while let Some((record, tail)) = R::split(rest) {
-        tally = tally.with(is_equal(record));
-        rest = tail;
+    let mut record = R::zeros();
+    let bytes = record.bytes();
+    let length = bytes.len();
+    let got = read_full(input, bytes)?;
+    if got == 0 {
+        return Ok(None);
     }
-    if !rest.is_empty() {
-        tally = tally.with(false);
+    Ok(Some((got == length) & is_equal(&record)))
+}
+
+fn tally_of<R: Record, F: Fn(&R) -> bool>(input: &mut impl Read, is_equal: F) -> io::Result<Tally>
+    requires { F.IsAlwaysCallable is_equal }
+{
+    let mut equal = 0;
+    let mut different = None;
+    for records in 0..MOST_RECORDS {
+        let Some(is_same) = next_equal(input, &is_equal)? else {
+            return Ok(Tally {
+                records,
+                equal,
+                different,
+            });
+        };
+        if is_same {
+            equal += 1;
+        } else {
+            different = different.or(Some(records));
+        }
     }
-    tally
+    Ok(Tally {
+        records: MOST_RECORDS,
+        equal,
+        different,
+    })
 }
 
 // The form is what follows the file's name.
 pub(crate) fn replay<R: Record, F: Fn(&R) -> bool>(
     rt: &(impl Files + Print),
-    alloc: Global,
     name: &str,
     form: &str,
     is_equal: F,
 ) -> io::Result<()>
-    requires callable { F.IsAlwaysCallable is_equal }
-    requires some { 0 < R.size }
+    requires { F.IsAlwaysCallable is_equal }
 {
     print!(rt; "{name}{form}")?;
     let Ok(mut file) = File::open(rt, name) else {
         return println!(rt; ": cannot be read");
     };
-    let mut records = Vec::new(alloc);
-    file.read_to_end(&mut records)?;
-    println!(rt; ": {}", tally_of(&records, is_equal))
+    println!(rt; ": {}", tally_of(&mut file, is_equal)?)
 }
