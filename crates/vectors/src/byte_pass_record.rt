@@ -30,6 +30,10 @@ fn pass_answer(record: &[u8; 1448], samples: &mut [u8]) -> Result<(), Fault> {
     )
 }
 
+fn are_after(found: &[u8; 1448], record: &[u8; 1448]) -> bool {
+    found[168..808] == record[808..1448]
+}
+
 // A refusal leaves the samples, and an accepted pass those that are not lent: all are compared. A record that says more than there
 // is room for is different.
 pub(crate) fn is_equal(record: &[u8; 1448]) -> bool {
@@ -40,5 +44,5 @@ pub(crate) fn is_equal(record: &[u8; 1448]) -> bool {
     (usize::from(record[7]) <= CELL_BYTES)
         & (lent <= SAMPLES)
         & is_answer(answer, record[6], size32_at(record, 36))
-        & (found[168..808] == record[808..1448])
+        & are_after(&found, record)
 }
