@@ -1,9 +1,9 @@
 -- Laws of the level table's definitions, for its functions' proofs.
 -- Assumes nothing.
-use Rattle.std.specs.Prelude.{◌≡◌, List, ℕ, ◌+◌, ◌/◌, ◌%◌, ◌<◌, pos, ◌+ℤ◌, get_or, replicate}
-use Rattle.std.proofs.Common.{zero-add, arith, ne_eqb}
+use Rattle.std.specs.Prelude.{◌≡◌, List, ℕ, ◌+◌, ◌*◌, ◌/◌, ◌%◌, ◌<◌, pos, ◌+ℤ◌, get_or}
+use Rattle.std.proofs.Common.{◌∙◌, zero-add, arith, ne_eqb}
 use lib.IntN.{+ℤ_assoc}
-use Rattle.base.specs.Filled.{filled, filled_at, filled_same}
+use Rattle.base.specs.Filled.{filled, filled_join, filled_same}
 use Rattle.base.specs.Notation.{shl_z}
 use Rattle.levels.specs.Levels.{clipped_level, n_shift, lvl_seg, inter_lvl, delta_lvl, entry_lvl, segment_lvl, place_lvl}
 use Rattle.frame_header.specs.declared.LoopFilterParams.{LoopFilterParams}
@@ -15,17 +15,29 @@ pub delta_sum : (lf : LoopFilterParams) (deltas : Deltas) (lvl ref mode : ℕ) �
 unfolding inter_lvl
 delta_sum lf deltas lvl ref mode h = rw (ne_eqb ref 0 h, +ℤ_assoc)
 
-module _ (lf : LoopFilterParams) (seg : SegmentationParams) (deltas : Deltas) (segments : List ℕ) where
-  -- an entry by the levels of the eight segments
-  abbrev pub entry_by : ℕ → ℕ
-  entry_by k = entry_lvl lf deltas (get_or segments (k / 8) 0) (k % 8 / 2) (k % 2)
+-- the entry k of a segment, at its place in the table
+pub placed : (lf : LoopFilterParams) (deltas : Deltas) (lvl segment k : ℕ) → k < 8 → entry_lvl lf deltas lvl (k / 2) (k % 2) ≡ segment_lvl lf deltas lvl (segment * 8 + k)
+unfolding segment_lvl
+placed lf deltas lvl segment k h = rw (reference, mode)
+  where
+    reference : (segment * 8 + k) % 8 / 2 ≡ k / 2
+    reference = omega arith
 
-  pub entries_by : (l : List ℕ) → segments ≡ filled (lvl_seg lf seg) 0 8 (replicate 8 0) → filled entry_by 0 64 l ≡ filled (place_lvl lf seg deltas) 0 64 l
-  unfolding place_lvl segment_lvl
-  entries_by l e = filled_same entry_by (place_lvl lf seg deltas) 0 64 l (λ k h. same k h)
-    where
-      level : (k : ℕ) → k < 64 → get_or segments (k / 8) 0 ≡ lvl_seg lf seg (k / 8)
-      level k h = rw (e, ← zero-add (k / 8)) (filled_at (lvl_seg lf seg) 0 8 (replicate 8 0) (k / 8) (omega arith) (omega arith))
+    mode : (segment * 8 + k) % 2 ≡ k % 2
+    mode = omega arith
 
-      same : (k : ℕ) → k < 64 → entry_by (0 + k) ≡ place_lvl lf seg deltas (0 + k)
-      same k h = rw (zero-add k, level k h)
+-- an entry of a segment is the table's entry at its place
+same : (lf : LoopFilterParams) (seg : SegmentationParams) (deltas : Deltas) (segment k : ℕ) → k < 8 → segment_lvl lf deltas (lvl_seg lf seg segment) (segment * 8 + k) ≡ place_lvl lf seg deltas (segment * 8 + k)
+unfolding place_lvl
+same lf seg deltas segment k h = let e : (segment * 8 + k) / 8 ≡ segment = omega arith in rw e
+
+-- the segments before this one, and then its own eight entries
+pub segment_more : (lf : LoopFilterParams) (seg : SegmentationParams) (deltas : Deltas) (segment : ℕ) (l : List ℕ) → filled (segment_lvl lf deltas (lvl_seg lf seg segment)) (segment * 8) 8 (filled (place_lvl lf seg deltas) 0 (segment * 8) l) ≡ filled (place_lvl lf seg deltas) 0 ((segment + 1) * 8) l
+segment_more lf seg deltas segment l =
+    let place = place_lvl lf seg deltas in
+    let before = filled place 0 (segment * 8) l in
+    filled_same (segment_lvl lf deltas (lvl_seg lf seg segment)) place (segment * 8) 8 before (same lf seg deltas segment)
+    ∙ rw (zero-add (segment * 8), ends) at (filled_join place 0 (segment * 8) 8 l)
+  where
+    ends : segment * 8 + 8 ≡ (segment + 1) * 8
+    ends = omega arith

@@ -1,6 +1,6 @@
 -- The level table of a frame: loop_filter_frame_init( ), 8.8.1.
 -- Assumes nothing.
-use Rattle.std.specs.Prelude.{cond, not, ◌&&◌, List, ℕ, ◌+◌, ◌/◌, ◌%◌, eqb, ltb, ℤ, pos, nat_abs, ◌+ℤ◌, get_or, Result, Ok, Err}
+use Rattle.std.specs.Prelude.{cond, not, ◌&&◌, List, ℕ, ◌/◌, ◌%◌, eqb, ltb, ℤ, pos, nat_abs, ◌+ℤ◌, get_or, Result, Ok, Err}
 use Rattle.base.specs.Filled.{filled}
 use Rattle.base.specs.Notation.{clip3, shl_z}
 use Rattle.base.specs.Fault.{number_of, place_of}

@@ -1,17 +1,16 @@
 // The level table of a frame (8.8.1), in the order of the Rust's loop_filter.rs.
-ghost use Rattle.std.specs.Prelude.{◌≡◌, ◌/◌, ◌≤◌, ◌<◌, pos, ◌+ℤ◌};
+ghost use Rattle.std.specs.Prelude.{◌≡◌, ◌*◌, ◌/◌, ◌≤◌, ◌<◌, pos, ◌+ℤ◌};
 ghost use Rattle.std.specs.Int.Signed.{mag};
 ghost use Rattle.base.specs.Filled.{filled};
 ghost use Rattle.base.specs.Notation.{shl_z};
 ghost use Rattle.level_lookup.specs.LevelLookup.{zero_levels};
-ghost use Rattle.levels.specs.Levels.{clipped_level, lvl_seg, delta_lvl, entry_lvl, place_lvl, frame_init, level_table, table_outcome};
+ghost use Rattle.levels.specs.Levels.{clipped_level, lvl_seg, delta_lvl, entry_lvl, segment_lvl, place_lvl, frame_init, level_table, table_outcome};
 
 use base::fault::Fault;
 use frame_header::{
     Deltas, LoopFilterParams, SegmentationParams, active_feature, resolve_lf_deltas,
 };
 use level_lookup::LvlLookup;
-use std::array;
 
 // The segmentation feature that carries a level.
 pub const SEG_LVL_ALT_L: usize = 1;
@@ -79,13 +78,34 @@ fn entry_level(lf: LoopFilterParams, deltas: Deltas, lvl: u8, reference: usize, 
     if lf.delta_update { 0 } else { lvl }
 }
 
+// The eight entries of a segment whose level is lvl. By a loop for each segment: made at once by array::from_fn, the table took twice
+// as long.
+fn store_segment(
+    levels: &mut [u8; 64],
+    lf: LoopFilterParams,
+    deltas: Deltas,
+    lvl: u8,
+    segment: usize,
+)
+    requires { (lf.level ≤ 63) × (segment < 8) }
+    ensures { levels.new ≡ filled (segment_lvl lf deltas lvl) (segment * 8) 8 levels.old }
+{
+    for k in 0..8 {
+        levels[segment * 8 + k] = entry_level(lf, deltas, lvl, k / 2, k % 2);
+    }
+}
+
 // The table for a frame level that was tested.
 fn frame_levels(lf: LoopFilterParams, seg: SegmentationParams, deltas: Deltas) -> [u8; 64]
     requires { lf.level ≤ 63 }
     ensures { result ≡ filled (place_lvl lf seg deltas) 0 64 zero_levels }
 {
-    let segments: [u8; 8] = array::from_fn(|segment| segment_level(lf, seg, segment));
-    array::from_fn(|k| entry_level(lf, deltas, segments[k / 8], k % 8 / 2, k % 2))
+    let mut levels = [0; 64];
+    for segment in 0..8 {
+        let lvl = segment_level(lf, seg, segment);
+        store_segment(&mut levels, lf, deltas, lvl, segment);
+    }
+    levels
 }
 
 // The level table for deltas that are resolved. A frame level above 63 is refused.
