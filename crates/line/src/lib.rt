@@ -15,7 +15,7 @@ mod masks;
 mod narrow;
 
 use base::fault::Fault;
-use base::is_supported;
+use base::depth::is_supported;
 use base::search::first_place;
 use depth::scaled;
 use masks::{filter_mask, flat_mask, flat_mask2, hev_mask};

@@ -19,7 +19,7 @@ ghost use Rattle.pass.specs.WorkLaws.{Ready};
 mod edge;
 
 use base::fault::Fault;
-use base::is_supported;
+use base::depth::is_supported;
 use decided::superblock_of;
 use edge::filter_keys;
 use faults::{list_faults_unchecked, number_faults};

@@ -13,7 +13,7 @@ pub mod mode_info;
 mod word;
 
 use base::fault::Fault;
-use base::is_supported;
+use base::depth::is_supported;
 use base::search::first_place;
 use geometry::{bad_frame_size, bad_start, bad_subsampling, cell_count_unchecked};
 use mode_info::{ModeInfoLists, first_bad_block};

@@ -17,7 +17,7 @@ mod runs;
 
 use bad_words::first_bad_word_unchecked;
 use base::fault::Fault;
-use base::is_supported;
+use base::depth::is_supported;
 use decided::superblock_of;
 use faults::number_faults;
 use geometry::cell_count_unchecked;
