@@ -7,6 +7,13 @@ ghost use Rattle.positions.specs.Positions.{Placed, luma_x, luma_y, plane_x, pla
 
 use geometry::{Luma, Pass, Plane, Superblock};
 
+// A superblock of a plane that lies in its frame: a value of this type has numbers that are tested.
+#[derive(Clone, Copy)]
+pub struct PlacedSuperblock {
+    pub of: Superblock,
+    pub ghost placed: { Placed of },
+}
+
 // Position i on an edge of a pass over a superblock, whose frame, row and column are tested.
 #[derive(Clone, Copy)]
 pub struct EdgePosition {
