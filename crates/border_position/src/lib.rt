@@ -12,6 +12,7 @@ ghost use Rattle.border_position.specs.Holds.{Holds, HoldsLine};
 
 pub mod sample;
 
+use base::depth::Depth;
 use line::sample_filtering_unchecked;
 use sample::Sample;
 use strength::FilterStrength;
@@ -70,7 +71,7 @@ pub fn filter_position_unchecked<S: Sample>(
     let mut t = load(samples, g, p);
     sample_filtering_unchecked(
         &mut t,
-        depth,
+        Depth { bits: depth },
         size,
         strength.limit,
         strength.blimit,

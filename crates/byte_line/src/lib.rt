@@ -9,6 +9,7 @@ ghost use Rattle.line.specs.Line.{lent_line};
 ghost use Rattle.line.specs.SampleFiltering.{sample_filtering};
 ghost use Rattle.wide_filter.specs.Taps.{Within};
 
+use base::depth::Depth;
 use base::fault::Fault;
 use line::sample_filtering_unchecked;
 use std::array;
@@ -30,12 +31,13 @@ fn store_narrowed(t: &mut [u8], wide: &[u16; 16])
 
 // The first 16 bytes are the line, and those behind it stay as they are. The work without tests, for a caller that has
 // made them.
+#[tactic(auto, unfolding(base::specs::Depth::supported))]
 pub fn sample_filtering_bytes_unchecked(t: &mut [u8], size: u8, limit: u8, blimit: u8, thresh: u8)
     requires { 16 ≤ length t.old }
     ensures { t.new ≡ sample_filtering 8 size limit blimit thresh t.old }
 {
     let mut wide = widened(t);
-    sample_filtering_unchecked(&mut wide, 8, size, limit, blimit, thresh);
+    sample_filtering_unchecked(&mut wide, Depth { bits: 8 }, size, limit, blimit, thresh);
     store_narrowed(t, &wide);
 }
 

@@ -1,18 +1,17 @@
 // The line filter (8.8.5) on one lane: 16 samples of at most 12 bits, so that all of it is done in 16 bits.
 #![tactic(auto)]
 
-ghost use Rattle.std.specs.Prelude.{◌≡◌, true};
-ghost use Rattle.base.specs.Depth.{supported, scaled};
+ghost use Rattle.std.specs.Prelude.{◌≡◌};
+ghost use Rattle.base.specs.Depth.{scaled};
 ghost use Rattle.line.specs.Masks.{filter_mask};
 ghost use Rattle.line.specs.SampleFiltering.{sample_filtering};
 ghost use Rattle.lane_filters.specs.LaneSamples.{samples_of, four_of, six_of, fourteen_of, put_taps, Small};
 
-mod depth;
 pub mod masks;
 mod narrow;
 pub mod wide;
 
-use depth::scaled;
+use base::depth::Depth;
 use masks::{filter_mask_unchecked, flat_mask, flat_mask2, hev_mask};
 use narrow::narrow_filter;
 use wide::{wide_fourteen_unchecked, wide_six_unchecked};
@@ -120,35 +119,41 @@ fn with_six(a: Lane<u16>, r: Six<u16>) -> Lane<u16>
 }
 
 // Whether a filter is on at all.
-pub fn lane_mask_unchecked(a: Lane<u16>, depth: u8, limit: u8, blimit: u8) -> bool
-    requires { (supported depth ≡ true) × Small a }
-    ensures { result ≡ filter_mask (scaled depth limit) (scaled depth blimit) (samples_of a) }
+pub fn lane_mask_unchecked(a: Lane<u16>, depth: Depth, limit: u8, blimit: u8) -> bool
+    requires { Small a }
+    ensures { result ≡ filter_mask (scaled depth.bits limit) (scaled depth.bits blimit) (samples_of a) }
 {
-    filter_mask_unchecked(a, scaled(limit, depth), scaled(blimit, depth))
+    filter_mask_unchecked(a, depth.scaled(limit), depth.scaled(blimit))
 }
 
 // A lane at size 0, 1 and 2. The samples of the answer are those that can change.
 
-pub fn lane_four_unchecked(a: Lane<u16>, depth: u8, limit: u8, blimit: u8, thresh: u8) -> Four<u16>
-    requires { (supported depth ≡ true) × Small a }
-    ensures { put_taps (samples_of a) 6 (four_of result) ≡ sample_filtering depth 0 limit blimit thresh (samples_of a) }
+pub fn lane_four_unchecked(
+    a: Lane<u16>,
+    depth: Depth,
+    limit: u8,
+    blimit: u8,
+    thresh: u8,
+) -> Four<u16>
+    requires { Small a }
+    ensures { put_taps (samples_of a) 6 (four_of result) ≡ sample_filtering depth.bits 0 limit blimit thresh (samples_of a) }
 {
     if !lane_mask_unchecked(a, depth, limit, blimit) {
         return a.four();
     }
-    let hev = hev_mask(a, scaled(thresh, depth));
+    let hev = hev_mask(a, depth.scaled(thresh));
     narrow_filter(a, hev, depth)
 }
 
-pub fn lane_six_unchecked(a: Lane<u16>, depth: u8, limit: u8, blimit: u8, thresh: u8) -> Six<u16>
-    requires { (supported depth ≡ true) × Small a }
-    ensures { put_taps (samples_of a) 5 (six_of result) ≡ sample_filtering depth 1 limit blimit thresh (samples_of a) }
+pub fn lane_six_unchecked(a: Lane<u16>, depth: Depth, limit: u8, blimit: u8, thresh: u8) -> Six<u16>
+    requires { Small a }
+    ensures { put_taps (samples_of a) 5 (six_of result) ≡ sample_filtering depth.bits 1 limit blimit thresh (samples_of a) }
 {
     if !lane_mask_unchecked(a, depth, limit, blimit) {
         return a.six();
     }
-    if !flat_mask(a, scaled(1, depth)) {
-        let hev = hev_mask(a, scaled(thresh, depth));
+    if !flat_mask(a, depth.scaled(1)) {
+        let hev = hev_mask(a, depth.scaled(thresh));
         return with_four(a, narrow_filter(a, hev, depth));
     }
     wide_six_unchecked(a)
@@ -156,22 +161,22 @@ pub fn lane_six_unchecked(a: Lane<u16>, depth: u8, limit: u8, blimit: u8, thresh
 
 pub fn lane_fourteen_unchecked(
     a: Lane<u16>,
-    depth: u8,
+    depth: Depth,
     limit: u8,
     blimit: u8,
     thresh: u8,
 ) -> Lane<u16>
-    requires { (supported depth ≡ true) × Small a }
-    ensures { put_taps (samples_of a) 1 (fourteen_of result) ≡ sample_filtering depth 2 limit blimit thresh (samples_of a) }
+    requires { Small a }
+    ensures { put_taps (samples_of a) 1 (fourteen_of result) ≡ sample_filtering depth.bits 2 limit blimit thresh (samples_of a) }
 {
     if !lane_mask_unchecked(a, depth, limit, blimit) {
         return a;
     }
-    if !flat_mask(a, scaled(1, depth)) {
-        let hev = hev_mask(a, scaled(thresh, depth));
+    if !flat_mask(a, depth.scaled(1)) {
+        let hev = hev_mask(a, depth.scaled(thresh));
         return with_six(a, with_four(a, narrow_filter(a, hev, depth)));
     }
-    if !flat_mask2(a, scaled(1, depth)) {
+    if !flat_mask2(a, depth.scaled(1)) {
         return with_six(a, wide_six_unchecked(a));
     }
     wide_fourteen_unchecked(a)

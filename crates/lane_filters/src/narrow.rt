@@ -1,14 +1,13 @@
 // The narrow filter (8.8.5.4) on numbers without a sign: each value is raised by half its range, so that 16 bits are enough
 // and a subtraction that stops at 0 clips from below. `one` is the scale of the depth. Bytes have a narrow filter of their
 // own: a byte ends where their range does, so that they need no cap and stay in 8 bits.
-ghost use Rattle.std.specs.Prelude.{◌≡◌, true, ◌-◌, ◌*◌, ◌≤◌, ◌<◌, min};
-ghost use Rattle.base.specs.Depth.{supported};
+ghost use Rattle.std.specs.Prelude.{◌≡◌, ◌-◌, ◌*◌, ◌≤◌, ◌<◌, min};
 ghost use Rattle.line.specs.NarrowFilter.{narrow_filter};
 ghost use Rattle.lane_filters.specs.LaneSamples.{samples_of, four_of, put_taps, Small};
 ghost use Rattle.lane_filters.specs.RaisedFilter.{raised_base, raised_filter, raised_eighth, raised_half, increased, decreased};
 
-use crate::depth::scale;
 use crate::{Four, Lane};
+use base::depth::Depth;
 
 // x less y, at least 0 and at most top.
 fn capped(x: u16, y: u16, top: u16) -> u16
@@ -69,11 +68,12 @@ fn decreased(x: u16, value: u16, k: u16, one: u16) -> u16
     capped(x + k, value, 256 * one - 1)
 }
 
-pub(crate) fn narrow_filter(a: Lane<u16>, hev: bool, depth: u8) -> Four<u16>
-    requires { (supported depth ≡ true) × Small a }
-    ensures { put_taps (samples_of a) 6 (four_of result) ≡ narrow_filter depth hev (samples_of a) }
+#[tactic(auto, using(base::specs::Depth::depth_scaled))]
+pub(crate) fn narrow_filter(a: Lane<u16>, hev: bool, depth: Depth) -> Four<u16>
+    requires { Small a }
+    ensures { put_taps (samples_of a) 6 (four_of result) ≡ narrow_filter depth.bits hev (samples_of a) }
 {
-    let one = scale(depth);
+    let one = depth.scaled(1);
     let base = filter_base(a.p1, a.q1, hev, one);
     let filter = filter_value(base, a.p0, a.q0, one);
     let filter1 = eighth(filter, 4, one);

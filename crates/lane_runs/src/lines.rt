@@ -7,6 +7,7 @@ ghost use Rattle.window.specs.InsideRun.{plain_run};
 ghost use Rattle.window.specs.Stencil.{in_turn};
 ghost use Rattle.lane_runs.specs.Spread.{Spread, SpacedRun, LaneRun, Loaded};
 
+use base::depth::Depth;
 use lanes::filter_lanes_unchecked;
 use strength::FilterStrength;
 
@@ -59,7 +60,7 @@ fn filter_sized<L: Lines, const SIZE: u8>(
     let read = reads(SIZE);
     let changed = changes(SIZE);
     let mut t = lines.gather(samples, at, n, 8 - read, 2 * read);
-    if filter_lanes_unchecked(&mut t, n, depth, SIZE, strength) {
+    if filter_lanes_unchecked(&mut t, n, Depth { bits: depth }, SIZE, strength) {
         lines.scatter(samples, at, n, &t, 8 - changed, 2 * changed);
     }
 }

@@ -1,13 +1,13 @@
 // The line filter on 16 lanes at once. Loops have no branch but the filter's own choices, which vectorise.
 #![tactic(auto)]
 
-ghost use Rattle.std.specs.Prelude.{◌≡◌, true, false, ◌≤◌, ◌<◌};
-ghost use Rattle.base.specs.Depth.{supported};
+ghost use Rattle.std.specs.Prelude.{◌≡◌, false, ◌≤◌, ◌<◌};
 ghost use Rattle.line.specs.SampleFiltering.{sample_filtering};
 ghost use Rattle.lanes.specs.Lanes.{Table, Lanes, NoneTo};
 
 pub mod table;
 
+use base::depth::Depth;
 use lane_filters::{
     Lane, lane_four_unchecked, lane_fourteen_unchecked, lane_mask_unchecked, lane_six_unchecked,
 };
@@ -23,9 +23,9 @@ fn whole(n: usize) -> usize
 }
 
 // Whether the filter mask is on in one of the first m lanes that is below n. Idle lanes would pass it.
-fn any_mask(t: &[u16; 256], m: usize, n: u16, depth: u8, limit: u8, blimit: u8) -> bool
-    requires { (supported depth ≡ true) × Table t.now × (m ≤ 16) }
-    ensures { result ≡ false → NoneTo m n depth limit blimit t.now }
+fn any_mask(t: &[u16; 256], m: usize, n: u16, depth: Depth, limit: u8, blimit: u8) -> bool
+    requires { Table t.now × (m ≤ 16) }
+    ensures { result ≡ false → NoneTo m n depth.bits limit blimit t.now }
 {
     let mut on = false;
     for l in 0..m {
@@ -39,12 +39,12 @@ fn any_mask(t: &[u16; 256], m: usize, n: u16, depth: u8, limit: u8, blimit: u8) 
 pub fn filter_lanes_unchecked(
     t: &mut [u16; 256],
     n: usize,
-    depth: u8,
+    depth: Depth,
     size: u8,
     strength: FilterStrength,
 ) -> bool
-    requires { (supported depth ≡ true) × (size ≤ 2) × (n ≤ 16) × Table t.old }
-    ensures { Lanes n (sample_filtering depth size strength.limit strength.blimit strength.thresh) t.old t.new × (result ≡ false → t.new ≡ t.old) }
+    requires { (n ≤ 16) × Table t.old }
+    ensures { Lanes n (sample_filtering depth.bits size strength.limit strength.blimit strength.thresh) t.old t.new × (result ≡ false → t.new ≡ t.old) }
 {
     let limit = strength.limit;
     let blimit = strength.blimit;

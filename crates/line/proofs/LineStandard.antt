@@ -2,8 +2,6 @@
 -- Assumes nothing.
 use Rattle.std.specs.Prelude.{◌≡◌, refl, Bool, true, false, cond, not, ◌||◌, List, ℕ, eqb, length}
 use Rattle.section_8_8.specs.LoopFilterProcess as Std
-use Rattle.line.specs.Masks.{hev_mask, filter_mask, flat_mask, flat_mask2}
-use Rattle.line.specs.NarrowFilter.{narrow_filter}
 use Rattle.line.specs.SampleFiltering.{sample_filtering}
 use Rattle.wide_filter.specs.WideFilterStandard.{taps_of}
 use Rattle.wide_filter.proofs.WideFilterStandard.{wide_standard}

@@ -7,7 +7,6 @@ use Rattle.base.specs.NotationLaws.{split}
 use Rattle.section_8_8.specs.LoopFilterProcess as Std
 use Rattle.line.specs.Masks.{hev_mask, filter_mask, flat_at, flat_mask, flat_mask2}
 use Rattle.line.specs.NarrowFilter.{c, sample, narrow_filter}
-use Rattle.line.specs.SampleFiltering.{sample_filtering}
 use Rattle.wide_filter.specs.Taps.{p, q}
 use Rattle.wide_filter.specs.WideFilterStandard.{taps_of, tap_p, tap_q}
 

@@ -2,7 +2,7 @@
 -- Assumes nothing.
 use Rattle.std.specs.Prelude.{◌≡◌, Bool, cond, ◌||◌, List, ◌++◌, ◌⊎◌, ℕ, zero, suc, ◌+◌, ◌^◌, ◌≤◌, ◌<◌, T, length}
 use Rattle.std.proofs.Math.Path.{refl}
-use Rattle.std.proofs.Common.{sym, ◌∙◌, subst, ⊎_elim, inl, inr, arith}
+use Rattle.std.proofs.Common.{sym, ◌∙◌, subst, ⊎_elim, inl, inr, arith, ne_eqb}
 use Rattle.std.proofs.Math.Bool.{true, false, not}
 use Rattle.std.proofs.Math.Decide.{dec_lt}
 use Rattle.std.proofs.Math.Dec.{eqb}
@@ -169,6 +169,11 @@ filters_agree B size limit blimit thresh t u e a =
     cases true false g h false o s p q = narrow
     cases true true g h false true s p q = six
     cases true true g h false false s p q = rw (s (from_2 size p q)) (last (from_2 size p q) h)
+
+-- each size above 1 filters as 2 does
+pub filters_large : (B size limit blimit thresh : ℕ) (t : List ℕ) → 2 ≤ size → sample_filtering B size limit blimit thresh t ≡ sample_filtering B 2 limit blimit thresh t
+unfolding sample_filtering
+filters_large B size limit blimit thresh t h = rw (ne_eqb size 0 (λ e. omega arith), ne_eqb size 1 (λ e. omega arith))
 
 -- ---- one tap
 

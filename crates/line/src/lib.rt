@@ -1,8 +1,7 @@
 // The line filter (8.8.5): 16 samples across an edge, p7 to p0 and then q0 to q7.
 #![tactic(auto)]
 
-ghost use Rattle.std.specs.Prelude.{◌≡◌, true, ◌<◌};
-ghost use Rattle.base.specs.Depth.{supported};
+ghost use Rattle.std.specs.Prelude.{◌≡◌};
 ghost use Rattle.base.specs.Fault.{returned_of};
 ghost use Rattle.base.specs.First.{first_found};
 ghost use Rattle.base.specs.Outcome.{Answers};
@@ -10,14 +9,12 @@ ghost use Rattle.base.specs.Width.{U16};
 ghost use Rattle.line.specs.SampleFiltering.{sample_filtering};
 ghost use Rattle.line.specs.Line.{reaches, line};
 
-mod depth;
 mod masks;
 mod narrow;
 
+use base::depth::Depth;
 use base::fault::Fault;
-use base::depth::is_supported;
 use base::search::first_place;
-use depth::scaled;
 use masks::{filter_mask, flat_mask, flat_mask2, hev_mask};
 use narrow::narrow_filter;
 use wide_filter::{wide_filter_fourteen, wide_filter_six};
@@ -26,24 +23,28 @@ use wide_filter::{wide_filter_fourteen, wide_filter_six};
 #[tactic(auto, unfolding(crate::specs::SampleFiltering::sample_filtering))]
 pub fn sample_filtering_unchecked(
     t: &mut [u16; 16],
-    depth: u8,
+    depth: Depth,
     size: u8,
     limit: u8,
     blimit: u8,
     thresh: u8,
 )
-    requires { supported depth ≡ true }
-    ensures { t.new ≡ sample_filtering depth size limit blimit thresh t.old }
+    ensures { t.new ≡ sample_filtering depth.bits size limit blimit thresh t.old }
 {
-    if !filter_mask(t, scaled(limit, depth), scaled(blimit, depth)) {
+    if !filter_mask(
+        t,
+        u32::from(depth.scaled(limit)),
+        u32::from(depth.scaled(blimit)),
+    ) {
         return;
     }
-    if (size == 0) | !flat_mask(t, scaled(1, depth)) {
-        let hev = hev_mask(t, scaled(thresh, depth));
+    let one = u32::from(depth.scaled(1));
+    if (size == 0) | !flat_mask(t, one) {
+        let hev = hev_mask(t, u32::from(depth.scaled(thresh)));
         narrow_filter(t, hev, depth);
         return;
     }
-    if (size == 1) | !flat_mask2(t, scaled(1, depth)) {
+    if (size == 1) | !flat_mask2(t, one) {
         wide_filter_six(t);
         return;
     }
@@ -69,10 +70,10 @@ pub fn sample_filtering(
 ) -> Result<(), Fault>
     ensures { Answers (line U16 depth size limit blimit thresh t.old) (returned_of result) t.old t.new }
 {
-    if !is_supported(depth) {
+    let Some(depth) = Depth::new(depth) else {
         return Err(Fault::Depth);
-    }
-    if let Some(k) = first_reaching(t, 1 << depth) {
+    };
+    if let Some(k) = first_reaching(t, 1 << depth.bits) {
         return Err(Fault::Sample(k));
     }
     if 2 < size {

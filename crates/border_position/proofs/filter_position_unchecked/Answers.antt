@@ -6,8 +6,8 @@ use Rattle.window.specs.Window.{stencil}
 use Rattle.border_position.specs.Holds.{line_held}
 use Rattle.border_position.proofs.filter_position_unchecked.Goals as goal
 
-pub sample_filtering_unchecked-requires : goal.sample_filtering_unchecked-requires
-sample_filtering_unchecked-requires g c = admits-supported _ _ c.requires.1
+pub invariant_of-sample_filtering_unchecked : goal.invariant_of-sample_filtering_unchecked
+invariant_of-sample_filtering_unchecked g c = record { known = admits-supported _ _ c.requires.1 }
 
 pub store-requires : goal.store-requires
 store-requires g c =

@@ -40,7 +40,3 @@ returns c =
     let front = filters-front 8 a.size a.limit a.blimit a.thresh (take 16 t) (drop 16 t) (length-take-le 16 t s.requires) in
     (rw (at-line.sample_filtering_unchecked.ensures, at_wide.widened-wide.ensures) at at_store.store_narrowed.ensures)
     ∙ sym (rw take-append-drop at front)
-
-pub sample_filtering_unchecked-requires : goal.sample_filtering_unchecked-requires
-sample_filtering_unchecked-requires c =
-    depth_8

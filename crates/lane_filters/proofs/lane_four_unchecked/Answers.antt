@@ -8,7 +8,7 @@ returns-then-not-lane_mask_unchecked c =
     let m = c.before.before in
     let a = m.args in
     rw c.four.ensures
-    (filters_none a.depth 0 a.limit a.blimit a.thresh (samples_of a.a) (sym m.lane_mask_unchecked.ensures ∙ c.before.if-not-lane_mask_unchecked.true))
+    (filters_none a.depth.bits 0 a.limit a.blimit a.thresh (samples_of a.a) (sym m.lane_mask_unchecked.ensures ∙ c.before.if-not-lane_mask_unchecked.true))
 
 pub returns : goal.returns
 returns c =
@@ -16,4 +16,4 @@ returns c =
     let m = hev.before.before.before in
     let a = m.args in
     (rw (hev.hev_mask-hev.ensures, hev.scaled.ensures.0) at c.narrow_filter.ensures)
-    ∙ filters_narrow a.depth 0 a.limit a.blimit a.thresh (samples_of a.a) (sym m.lane_mask_unchecked.ensures ∙ hev.if-not-lane_mask_unchecked.false) refl
+    ∙ filters_narrow a.depth.bits 0 a.limit a.blimit a.thresh (samples_of a.a) (sym m.lane_mask_unchecked.ensures ∙ hev.if-not-lane_mask_unchecked.false) refl

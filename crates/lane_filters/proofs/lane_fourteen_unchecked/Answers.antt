@@ -11,7 +11,7 @@ pub returns-then-not-lane_mask_unchecked : goal.returns-then-not-lane_mask_unche
 returns-then-not-lane_mask_unchecked c =
     let m = c.before in
     let a = m.args in
-    filters_none a.depth 2 a.limit a.blimit a.thresh (samples_of a.a) (sym m.lane_mask_unchecked.ensures ∙ c.if-not-lane_mask_unchecked.true)
+    filters_none a.depth.bits 2 a.limit a.blimit a.thresh (samples_of a.a) (sym m.lane_mask_unchecked.ensures ∙ c.if-not-lane_mask_unchecked.true)
 
 pub returns-then-not-flat_mask : goal.returns-then-not-flat_mask
 returns-then-not-flat_mask c =
@@ -20,11 +20,11 @@ returns-then-not-flat_mask c =
     let flat = at-if2.before in
     let m = flat.before.before.before in
     let a = m.args in
-    let rough : not (flat_mask (scaled a.depth 1) (samples_of a.a)) ≡ true = not_from_false _ (rw (flat.flat_mask.ensures, flat.scaled.ensures.0) at at-if2.if-not-flat_mask.true) in
+    let rough : not (flat_mask (scaled a.depth.bits 1) (samples_of a.a)) ≡ true = not_from_false _ (rw (flat.flat_mask.ensures, flat.scaled.ensures.0) at at-if2.if-not-flat_mask.true) in
     c.with_six.ensures
     ∙ c.with_four.ensures
     ∙ (rw (hev.hev_mask-hev.ensures, hev.scaled-then-not-flat_mask.ensures.0) at c.narrow_filter.ensures)
-    ∙ filters_narrow a.depth 2 a.limit a.blimit a.thresh (samples_of a.a) (sym m.lane_mask_unchecked.ensures ∙ flat.if-not-lane_mask_unchecked.false) rough
+    ∙ filters_narrow a.depth.bits 2 a.limit a.blimit a.thresh (samples_of a.a) (sym m.lane_mask_unchecked.ensures ∙ flat.if-not-lane_mask_unchecked.false) rough
 
 pub returns-then-not-flat_mask2 : goal.returns-then-not-flat_mask2
 returns-then-not-flat_mask2 c =
@@ -34,12 +34,12 @@ returns-then-not-flat_mask2 c =
     let flat = at-if2.before in
     let m = flat.before.before.before in
     let a = m.args in
-    let smooth : not (flat_mask (scaled a.depth 1) (samples_of a.a)) ≡ false =
+    let smooth : not (flat_mask (scaled a.depth.bits 1) (samples_of a.a)) ≡ false =
     not_from_true _ (rw (flat.flat_mask.ensures, flat.scaled.ensures.0) at at-if2.if-not-flat_mask.false) in
-    let rough : not (flat_mask2 (scaled a.depth 1) (samples_of a.a)) ≡ true = not_from_false _ (rw (flat2.flat_mask2.ensures, flat2.scaled-2.ensures.0) at at-if3.if-not-flat_mask2.true) in
+    let rough : not (flat_mask2 (scaled a.depth.bits 1) (samples_of a.a)) ≡ true = not_from_false _ (rw (flat2.flat_mask2.ensures, flat2.scaled-2.ensures.0) at at-if3.if-not-flat_mask2.true) in
     c.with_six-then-not-flat_mask2.ensures
     ∙ c.wide_six_unchecked.ensures
-    ∙ filters-six a.depth 2 a.limit a.blimit a.thresh (samples_of a.a) (sym m.lane_mask_unchecked.ensures ∙ flat.if-not-lane_mask_unchecked.false) smooth rough
+    ∙ filters-six a.depth.bits 2 a.limit a.blimit a.thresh (samples_of a.a) (sym m.lane_mask_unchecked.ensures ∙ flat.if-not-lane_mask_unchecked.false) smooth rough
 
 pub returns : goal.returns
 returns c =
@@ -49,7 +49,7 @@ returns c =
     let flat = at-if2.before in
     let m = flat.before.before.before in
     let a = m.args in
-    let smooth : not (flat_mask (scaled a.depth 1) (samples_of a.a)) ≡ false = not_from_true _ (rw (flat.flat_mask.ensures, flat.scaled.ensures.0) at at-if2.if-not-flat_mask.false) in
-    let smooth2 : not (flat_mask2 (scaled a.depth 1) (samples_of a.a)) ≡ false = not_from_true _ (rw (flat2.flat_mask2.ensures, flat2.scaled-2.ensures.0) at at-if3.if-not-flat_mask2.false) in
+    let smooth : not (flat_mask (scaled a.depth.bits 1) (samples_of a.a)) ≡ false = not_from_true _ (rw (flat.flat_mask.ensures, flat.scaled.ensures.0) at at-if2.if-not-flat_mask.false) in
+    let smooth2 : not (flat_mask2 (scaled a.depth.bits 1) (samples_of a.a)) ≡ false = not_from_true _ (rw (flat2.flat_mask2.ensures, flat2.scaled-2.ensures.0) at at-if3.if-not-flat_mask2.false) in
     c.wide_fourteen_unchecked.ensures
-    ∙ filters-fourteen a.depth 2 a.limit a.blimit a.thresh (samples_of a.a) (sym m.lane_mask_unchecked.ensures ∙ flat.if-not-lane_mask_unchecked.false) smooth smooth2
+    ∙ filters-fourteen a.depth.bits 2 a.limit a.blimit a.thresh (samples_of a.a) (sym m.lane_mask_unchecked.ensures ∙ flat.if-not-lane_mask_unchecked.false) smooth smooth2

@@ -12,7 +12,7 @@ returns-then-not-lane_mask_unchecked c =
     let m = c.before.before in
     let a = m.args in
     rw c.six.ensures
-    (filters_none a.depth 1 a.limit a.blimit a.thresh (samples_of a.a) (sym m.lane_mask_unchecked.ensures ∙ c.before.if-not-lane_mask_unchecked.true))
+    (filters_none a.depth.bits 1 a.limit a.blimit a.thresh (samples_of a.a) (sym m.lane_mask_unchecked.ensures ∙ c.before.if-not-lane_mask_unchecked.true))
 
 pub returns-then-not-flat_mask : goal.returns-then-not-flat_mask
 returns-then-not-flat_mask c =
@@ -21,10 +21,10 @@ returns-then-not-flat_mask c =
     let flat = at-if2.before in
     let m = flat.before.before.before in
     let a = m.args in
-    let rough : not (flat_mask (scaled a.depth 1) (samples_of a.a)) ≡ true = not_from_false _ (rw (flat.flat_mask.ensures, flat.scaled.ensures.0) at at-if2.if-not-flat_mask.true) in
+    let rough : not (flat_mask (scaled a.depth.bits 1) (samples_of a.a)) ≡ true = not_from_false _ (rw (flat.flat_mask.ensures, flat.scaled.ensures.0) at at-if2.if-not-flat_mask.true) in
     c.with_four.ensures
     ∙ (rw (hev.hev_mask-hev.ensures, hev.scaled-then-not-flat_mask.ensures.0) at c.narrow_filter.ensures)
-    ∙ filters_narrow a.depth 1 a.limit a.blimit a.thresh (samples_of a.a) (sym m.lane_mask_unchecked.ensures ∙ flat.if-not-lane_mask_unchecked.false) rough
+    ∙ filters_narrow a.depth.bits 1 a.limit a.blimit a.thresh (samples_of a.a) (sym m.lane_mask_unchecked.ensures ∙ flat.if-not-lane_mask_unchecked.false) rough
 
 pub returns : goal.returns
 returns c =
@@ -32,6 +32,6 @@ returns c =
     let flat = at-if2.before in
     let m = flat.before.before.before in
     let a = m.args in
-    let smooth : not (flat_mask (scaled a.depth 1) (samples_of a.a)) ≡ false = not_from_true _ (rw (flat.flat_mask.ensures, flat.scaled.ensures.0) at at-if2.if-not-flat_mask.false) in
+    let smooth : not (flat_mask (scaled a.depth.bits 1) (samples_of a.a)) ≡ false = not_from_true _ (rw (flat.flat_mask.ensures, flat.scaled.ensures.0) at at-if2.if-not-flat_mask.false) in
     c.wide_six_unchecked.ensures
-    ∙ filters-six a.depth 1 a.limit a.blimit a.thresh (samples_of a.a) (sym m.lane_mask_unchecked.ensures ∙ flat.if-not-lane_mask_unchecked.false) smooth refl
+    ∙ filters-six a.depth.bits 1 a.limit a.blimit a.thresh (samples_of a.a) (sym m.lane_mask_unchecked.ensures ∙ flat.if-not-lane_mask_unchecked.false) smooth refl

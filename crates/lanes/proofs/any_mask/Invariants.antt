@@ -1,7 +1,6 @@
-use mathlib.Core.Path.{◌≡◌}
-use mathlib.Core.Bool.{false}
+use Rattle.std.specs.Prelude.{◌≡◌, false}
 use Rattle.lanes.specs.Lanes.{NoneTo}
 use Rattle.lanes.proofs.any_mask.Given as goal
 
 abbrev pub invariant-loop-l : goal.invariant-loop-l
-invariant-loop-l l = l.on ≡ false → NoneTo l.l l.n l.depth l.limit l.blimit l.t
+invariant-loop-l l = l.on ≡ false → NoneTo l.l l.n l.depth.bits l.limit l.blimit l.t

@@ -1,3 +1,4 @@
+use Rattle.std.proofs.Common.{arith}
 use Rattle.lane_filters.specs.LaneSamples.{samples_of}
 use Rattle.lane_filters.specs.RaisedFilterLaws.{narrow_high, narrow_low}
 use Rattle.lane_filters.proofs.narrow.narrow_filter.Goals as goal
@@ -12,7 +13,7 @@ returns-then-hev c =
     let b = f.before in
     let s = b.before in
     let a = s.args in
-    narrow_high a.depth s.scale-one.result s.requires.0 s.scale-one.ensures.0 a.hev (samples_of a.a) b.filter_base-base.result f.filter_value-filter.result f1.eighth-filter1.result f2.eighth-filter2.result p0.increased-p0.result q0.decreased-q0.result b.filter_base-base.ensures.0 f.filter_value-filter.ensures.0 f1.eighth-filter1.ensures.0 f2.eighth-filter2.ensures.0 p0.increased-p0.ensures q0.decreased-q0.ensures c.if-hev.true
+    narrow_high a.depth.bits s.scaled-one.result a.depth.known (omega arith) a.hev (samples_of a.a) b.filter_base-base.result f.filter_value-filter.result f1.eighth-filter1.result f2.eighth-filter2.result p0.increased-p0.result q0.decreased-q0.result b.filter_base-base.ensures.0 f.filter_value-filter.ensures.0 f1.eighth-filter1.ensures.0 f2.eighth-filter2.ensures.0 p0.increased-p0.ensures q0.decreased-q0.ensures c.if-hev.true
 
 pub returns : goal.returns
 returns c =
@@ -26,4 +27,4 @@ returns c =
     let b = f.before in
     let s = b.before in
     let a = s.args in
-    narrow_low a.depth s.scale-one.result s.requires.0 s.scale-one.ensures.0 a.hev (samples_of a.a) b.filter_base-base.result f.filter_value-filter.result f1.eighth-filter1.result f2.eighth-filter2.result p0.increased-p0.result q0.decreased-q0.result b.filter_base-base.ensures.0 f.filter_value-filter.ensures.0 f1.eighth-filter1.ensures.0 f2.eighth-filter2.ensures.0 p0.increased-p0.ensures q0.decreased-q0.ensures g.if-hev.false g.rounded_half-rounded.result p1.increased-p1.result c.decreased-q1.result g.rounded_half-rounded.ensures.0 p1.increased-p1.ensures c.decreased-q1.ensures
+    narrow_low a.depth.bits s.scaled-one.result a.depth.known (omega arith) a.hev (samples_of a.a) b.filter_base-base.result f.filter_value-filter.result f1.eighth-filter1.result f2.eighth-filter2.result p0.increased-p0.result q0.decreased-q0.result b.filter_base-base.ensures.0 f.filter_value-filter.ensures.0 f1.eighth-filter1.ensures.0 f2.eighth-filter2.ensures.0 p0.increased-p0.ensures q0.decreased-q0.ensures g.if-hev.false g.rounded_half-rounded.result p1.increased-p1.result c.decreased-q1.result g.rounded_half-rounded.ensures.0 p1.increased-p1.ensures c.decreased-q1.ensures

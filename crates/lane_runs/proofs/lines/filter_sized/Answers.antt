@@ -8,7 +8,7 @@ pub filter_lanes_unchecked-requires : goal.filter_lanes_unchecked-requires
 filter_lanes_unchecked-requires g c =
     let (run, some, known, size) = c.requires in
     let few = reads_few g.row.SIZE in
-    (known, size, run.run.few, loaded_table run (omega (arith, c.reads-read.ensures)) c.gather-t.ensures)
+    (run.run.few, loaded_table run (omega (arith, c.reads-read.ensures)) c.gather-t.ensures)
 
 pub returns-then-filter_lanes_unchecked : goal.returns-then-filter_lanes_unchecked
 returns-then-filter_lanes_unchecked g c =

@@ -16,9 +16,9 @@ pub returns : goal.returns
 returns x =
     let half = x.offset-half.result in
     let far : Far half = record { far = omega arith } in
-    let s = depth_scaled x.args.depth x.requires in
+    let s = depth_scaled x.args.depth.bits x.args.depth.known in
     let value : x.clamp.result ≡ int_max (pos 0 -ℤ half) (int_min x.args.v (half -ℤ pos 1)) =
     rw (minus_read (pos 0) half (record { far = omega arith }) far, minus_read half (pos 1) far (record { far = omega arith }), to_z-of_z x.ranges.v) at x.clamp.ensures.value in
-    let same : x.clamp.result ≡ c x.args.depth x.args.v =
-    value ∙ (rw x.offset-half.ensures.0 (clamped _ _ _ (omega (arith, ints))) ∙ c_is x.args.depth x.requires x.args.v) in
-    rw (back w32 x.clamp.type_inv, same) (refl, omega (arith, c_small x.args.depth x.requires x.args.v))
+    let same : x.clamp.result ≡ c x.args.depth.bits x.args.v =
+    value ∙ (rw x.offset-half.ensures.0 (clamped _ _ _ (omega (arith, ints))) ∙ c_is x.args.depth.bits x.args.depth.known x.args.v) in
+    rw (back w32 x.clamp.type_inv, same) (refl, omega (arith, c_small x.args.depth.bits x.args.depth.known x.args.v))

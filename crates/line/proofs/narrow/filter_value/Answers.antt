@@ -39,30 +39,26 @@ value B hev ps1 ps0 qs0 qs1 base r p1 p0 q0 q1 s e f =
 
 pub filter_base-base-requires : goal.filter_base-base-requires
 filter_base-base-requires x =
-    let (known, p1, p0, q0, q1) = x.requires in
-    rw (far_read (far p1), far_read (far q1)) (known, p1, q1)
+    let (p1, p0, q0, q1) = x.requires in
+    rw (far_read (far p1), far_read (far q1)) (p1, q1)
 
 pub overflow_sub-qs0 : goal.overflow_sub-qs0
-overflow_sub-qs0 x = let (known, p1, p0, q0, q1) = x.requires in minus_fits x.args.qs0 x.args.ps0 (far q0) (far p0)
+overflow_sub-qs0 x = let (p1, p0, q0, q1) = x.requires in minus_fits x.args.qs0 x.args.ps0 (far q0) (far p0)
 
 pub overflow_mul-qs0 : goal.overflow_mul-qs0
-overflow_mul-qs0 x = let (known, p1, p0, q0, q1) = x.requires in triple_fits x.args.qs0 x.args.ps0 q0 p0
+overflow_mul-qs0 x = let (p1, p0, q0, q1) = x.requires in triple_fits x.args.qs0 x.args.ps0 q0 p0
 
 pub overflow_add-base : goal.overflow_add-base
 overflow_add-base x =
-    let (known, p1, p0, q0, q1) = x.requires in
+    let (p1, p0, q0, q1) = x.requires in
     sum_fits x.filter_base-base.result x.args.qs0 x.args.ps0 x.filter_base-base.ensures.1 q0 p0
 
 pub returns : goal.returns
 returns x =
     let a = x.args in
-    let (known, p1, p0, q0, q1) = x.requires in
+    let (p1, p0, q0, q1) = x.requires in
     let base = x.filter_base-base in
     rw (back w32 x.clip.type_inv) (
-      value a.depth a.hev a.ps1 a.ps0 a.qs0 a.qs1 base.result x.clip.result p1 p0 q0 q1 base.ensures.1 base.ensures.0 x.clip.ensures.0,
+      value a.depth.bits a.hev a.ps1 a.ps0 a.qs0 a.qs1 base.result x.clip.result p1 p0 q0 q1 base.ensures.1 base.ensures.0 x.clip.ensures.0,
       x.clip.ensures.1,
     )
-
-pub clip-requires : goal.clip-requires
-clip-requires x =
-    x.requires.0

@@ -49,7 +49,7 @@ filter_value-filter-requires x =
     let a0 = at-signed3.signed-qs0.ensures.1 in
     let a1 = x.signed-qs1.ensures.1 in
     rw (far_read (far {z = at-signed.signed-ps1.result} b1), far_read (far {z = at-signed2.signed-ps0.result} b0), far_read (far {z = at-signed3.signed-qs0.result} a0), far_read (far {z = x.signed-qs1.result} a1))
-    (at-signed.requires, b1, b0, a0, a1)
+    (b1, b0, a0, a1)
 
 pub overflow_add-filter : goal.overflow_add-filter
 overflow_add-filter x = plus_fits x.filter_value-filter.result (pos 4) (far (omega arith)) (far (omega arith))
@@ -68,7 +68,7 @@ overflow_add-ps0 x =
     plus_fits at-signed2.signed-ps0.result x.eighth-filter2.result (far at-signed2.signed-ps0.ensures.1) (far (omega arith))
 
 -- the filter after p0 and q0 are stored
-filtered : (x : goal.Then-hev) → let signed4 = x in let signed = signed4 in let a = signed.args in let t = set (set a.t.now 8 x.sample.result) 7 x.sample-2.result in let f1 = x.eighth-filter1.result in cond a.hev t (set (set t 9 (sample a.depth (signed4.signed-qs1.result -ℤ round2_z f1 1))) 6 (sample a.depth (signed.signed-ps1.result +ℤ round2_z f1 1))) ≡ narrow_filter a.depth a.hev a.t.now
+filtered : (x : goal.Then-hev) → let signed4 = x in let signed = signed4 in let a = signed.args in let t = set (set a.t.now 8 x.sample.result) 7 x.sample-2.result in let f1 = x.eighth-filter1.result in cond a.hev t (set (set t 9 (sample a.depth.bits (signed4.signed-qs1.result -ℤ round2_z f1 1))) 6 (sample a.depth.bits (signed.signed-ps1.result +ℤ round2_z f1 1))) ≡ narrow_filter a.depth.bits a.hev a.t.now
 filtered x =
     let at-sample = x in
     let at-eighth2 = at-sample in
@@ -79,10 +79,10 @@ filtered x =
     let at-signed2 = at-signed3 in
     let at-signed = at-signed2 in
     let a = at-signed.args in
-    narrow_is a.depth a.hev a.t.now at-signed.signed-ps1.result at-signed2.signed-ps0.result at-signed3.signed-qs0.result at-signed4.signed-qs1.result at-filter.filter_value-filter.result at-eighth.eighth-filter1.result at-eighth2.eighth-filter2.result at-sample.sample.result x.sample-2.result at-signed.signed-ps1.ensures at-signed2.signed-ps0.ensures at-signed3.signed-qs0.ensures at-signed4.signed-qs1.ensures at-filter.filter_value-filter.ensures at-eighth.eighth-filter1.ensures at-eighth2.eighth-filter2.ensures at-sample.sample.ensures x.sample-2.ensures
+    narrow_is a.depth.bits a.hev a.t.now at-signed.signed-ps1.result at-signed2.signed-ps0.result at-signed3.signed-qs0.result at-signed4.signed-qs1.result at-filter.filter_value-filter.result at-eighth.eighth-filter1.result at-eighth2.eighth-filter2.result at-sample.sample.result x.sample-2.result at-signed.signed-ps1.ensures at-signed2.signed-ps0.ensures at-signed3.signed-qs0.ensures at-signed4.signed-qs1.ensures at-filter.filter_value-filter.ensures at-eighth.eighth-filter1.ensures at-eighth2.eighth-filter2.ensures at-sample.sample.ensures x.sample-2.ensures
 
 -- the filter after p0 and q0 are stored
-filtered2 : (x : goal.After-sample-4) → let signed4 = x in let signed = signed4 in let a = signed.args in let t = set (set a.t.now 8 x.sample.result) 7 x.sample-2.result in let f1 = x.eighth-filter1.result in cond a.hev t (set (set t 9 (sample a.depth (signed4.signed-qs1.result -ℤ round2_z f1 1))) 6 (sample a.depth (signed.signed-ps1.result +ℤ round2_z f1 1))) ≡ narrow_filter a.depth a.hev a.t.now
+filtered2 : (x : goal.After-sample-4) → let signed4 = x in let signed = signed4 in let a = signed.args in let t = set (set a.t.now 8 x.sample.result) 7 x.sample-2.result in let f1 = x.eighth-filter1.result in cond a.hev t (set (set t 9 (sample a.depth.bits (signed4.signed-qs1.result -ℤ round2_z f1 1))) 6 (sample a.depth.bits (signed.signed-ps1.result +ℤ round2_z f1 1))) ≡ narrow_filter a.depth.bits a.hev a.t.now
 filtered2 x =
     let at-sample = x in
     let at-eighth2 = at-sample in
@@ -93,7 +93,7 @@ filtered2 x =
     let at-signed2 = at-signed3 in
     let at-signed = at-signed2 in
     let a = at-signed.args in
-    narrow_is a.depth a.hev a.t.now at-signed.signed-ps1.result at-signed2.signed-ps0.result at-signed3.signed-qs0.result at-signed4.signed-qs1.result at-filter.filter_value-filter.result at-eighth.eighth-filter1.result at-eighth2.eighth-filter2.result at-sample.sample.result x.sample-2.result at-signed.signed-ps1.ensures at-signed2.signed-ps0.ensures at-signed3.signed-qs0.ensures at-signed4.signed-qs1.ensures at-filter.filter_value-filter.ensures at-eighth.eighth-filter1.ensures at-eighth2.eighth-filter2.ensures at-sample.sample.ensures x.sample-2.ensures
+    narrow_is a.depth.bits a.hev a.t.now at-signed.signed-ps1.result at-signed2.signed-ps0.result at-signed3.signed-qs0.result at-signed4.signed-qs1.result at-filter.filter_value-filter.result at-eighth.eighth-filter1.result at-eighth2.eighth-filter2.result at-sample.sample.result x.sample-2.result at-signed.signed-ps1.ensures at-signed2.signed-ps0.ensures at-signed3.signed-qs0.ensures at-signed4.signed-qs1.ensures at-filter.filter_value-filter.ensures at-eighth.eighth-filter1.ensures at-eighth2.eighth-filter2.ensures at-sample.sample.ensures x.sample-2.ensures
 
 pub returns-then-hev : goal.returns-then-hev
 returns-then-hev x = rw (← filtered x, x.if-hev.true)
@@ -132,43 +132,3 @@ returns x =
       at-rounded.rounded_half-rounded.ensures.0,
       far_read (far {z = at-eighth.eighth-filter1.result} (omega arith)),
     )
-
-pub signed-ps1-requires : goal.signed-ps1-requires
-signed-ps1-requires x =
-    x.requires
-
-pub signed-ps0-requires : goal.signed-ps0-requires
-signed-ps0-requires x =
-    x.requires
-
-pub signed-qs0-requires : goal.signed-qs0-requires
-signed-qs0-requires x =
-    x.requires
-
-pub signed-qs1-requires : goal.signed-qs1-requires
-signed-qs1-requires x =
-    x.requires
-
-pub eighth-filter1-requires : goal.eighth-filter1-requires
-eighth-filter1-requires x =
-    x.requires
-
-pub eighth-filter2-requires : goal.eighth-filter2-requires
-eighth-filter2-requires x =
-    x.requires
-
-pub sample-requires : goal.sample-requires
-sample-requires x =
-    x.requires
-
-pub sample-requires-2 : goal.sample-requires-2
-sample-requires-2 x =
-    x.requires
-
-pub sample-requires-3 : goal.sample-requires-3
-sample-requires-3 x =
-    x.requires
-
-pub sample-requires-4 : goal.sample-requires-4
-sample-requires-4 x =
-    x.requires
