@@ -10,6 +10,7 @@ ghost use Rattle.window.specs.InsideRun.{plain_lines};
 ghost use Rattle.window.specs.Stencil.{in_turn};
 ghost use Rattle.byte_chunks.specs.Chunk.{any_large};
 
+use base::sharpness::Sharpness;
 use byte_lanes::filter_byte_lanes_unchecked;
 use byte_rows::{load_lanes_unchecked, store_lanes_unchecked};
 
@@ -40,7 +41,7 @@ pub fn filter_chunk_unchecked(
     let all = any_large(keys);
     let mut t = [0u8; 256];
     load_lanes_unchecked(&mut t, samples, at, step, along, n, all);
-    let changed = filter_byte_lanes_unchecked(&mut t, keys, sharpness);
+    let changed = filter_byte_lanes_unchecked(&mut t, keys, Sharpness { level: sharpness });
     if changed.some {
         store_lanes_unchecked(samples, at, step, along, n, &mut t, changed.outer);
     }

@@ -12,6 +12,7 @@ mod limits;
 mod narrow;
 mod wide;
 
+use base::sharpness::Sharpness;
 use lane_filters::masks::{filter_mask_unchecked, flat_mask, flat_mask2, hev_mask};
 use lane_filters::{Four, Lane, Six};
 use limits::{blimit_of, limit_of};
@@ -19,9 +20,9 @@ use narrow::narrow_filter;
 use wide::{wide_fourteen, wide_six};
 
 // The filter that a lane gets by its key: 0 none, 1 the narrow one, 2 the wide one of six samples, 3 that of fourteen.
-pub fn lane_arm_unchecked(a: Lane<u8>, key: u8, sharpness: u8) -> u8
-    requires { (key < 192) × (sharpness ≤ 7) }
-    ensures { result ≡ arm_of sharpness key (samples_of a) }
+pub fn lane_arm_unchecked(a: Lane<u8>, key: u8, sharpness: Sharpness) -> u8
+    requires { key < 192 }
+    ensures { result ≡ arm_of sharpness.level key (samples_of a) }
 {
     let level = key % 64;
     let limit = limit_of(level, sharpness);

@@ -3,26 +3,27 @@ ghost use Rattle.std.specs.Prelude.{◌≡◌, ◌+◌, ◌*◌, ◌≤◌, ◌<
 ghost use Rattle.strength.specs.Strength.{shift, limit_of};
 ghost use Rattle.byte_filters.specs.TopLimit.{top_limit};
 
-fn shift_of(sharpness: u8) -> u8
-    ensures { (result ≡ shift sharpness) × (result ≤ 2) }
+use base::sharpness::Sharpness;
+
+fn shift_of(sharpness: Sharpness) -> u8
+    ensures { (result ≡ shift sharpness.level) × (result ≤ 2) }
 {
-    if sharpness == 0 {
+    if sharpness.level == 0 {
         return 0;
     }
-    if sharpness <= 4 { 1 } else { 2 }
+    if sharpness.level <= 4 { 1 } else { 2 }
 }
 
 // The greatest limit.
-fn top_of(sharpness: u8) -> u8
-    requires { sharpness ≤ 7 }
-    ensures { (result ≡ top_limit sharpness) × (0 < result) × (result ≤ 63) }
+fn top_of(sharpness: Sharpness) -> u8
+    ensures { (result ≡ top_limit sharpness.level) × (0 < result) × (result ≤ 63) }
 {
-    if sharpness == 0 { 63 } else { 9 - sharpness }
+    if sharpness.level == 0 { 63 } else { 9 - sharpness.level }
 }
 
-pub(crate) fn limit_of(level: u8, sharpness: u8) -> u8
-    requires { (level ≤ 63) × (sharpness ≤ 7) }
-    ensures { (result ≡ limit_of level sharpness) × (result ≤ 63) }
+pub(crate) fn limit_of(level: u8, sharpness: Sharpness) -> u8
+    requires { level ≤ 63 }
+    ensures { (result ≡ limit_of level sharpness.level) × (result ≤ 63) }
 {
     (level >> shift_of(sharpness)).min(top_of(sharpness)).max(1)
 }

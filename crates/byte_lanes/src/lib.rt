@@ -5,6 +5,7 @@ ghost use Rattle.std.specs.Prelude.{◌≡◌, ◌≤◌, ◌<◌, length};
 ghost use Rattle.lanes.specs.Lanes.{EachLane};
 ghost use Rattle.byte_lanes.specs.ByteLanes.{Keys, ArmsTo, has_arm, arm_lane, narrow_lane, wide_lane, Filtered};
 
+use base::sharpness::Sharpness;
 use byte_filters::{byte_four, byte_fourteen, byte_six, lane_arm_unchecked};
 use lane_filters::Lane;
 use lanes::table::{each_lane_unchecked, lane_at_unchecked};
@@ -17,9 +18,9 @@ pub struct Changed {
 }
 
 // The filter of each lane by its key.
-fn lane_arms(t: &[u8; 256], keys: &[u8; 16], sharpness: u8) -> [u8; 16]
-    requires { (sharpness ≤ 7) × Keys keys.now }
-    ensures { ArmsTo 16 sharpness keys.now t.now result }
+fn lane_arms(t: &[u8; 256], keys: &[u8; 16], sharpness: Sharpness) -> [u8; 16]
+    requires { Keys keys.now }
+    ensures { ArmsTo 16 sharpness.level keys.now t.now result }
 {
     // A loop: of array::from_fn the proof that each call sees the same table did not close.
     let mut arms = [0u8; 16];
@@ -41,9 +42,9 @@ fn any_arm(arms: &[u8; 16], arm: u8) -> bool
 }
 
 // Filters each lane by its key. A loop that would change no lane is left out.
-pub fn filter_byte_lanes_unchecked(t: &mut [u8; 256], keys: &[u8; 16], sharpness: u8) -> Changed
-    requires { (length t.old ≡ 256) × Keys keys.now × (sharpness ≤ 7) }
-    ensures { Filtered sharpness keys.now t.old t.new result }
+pub fn filter_byte_lanes_unchecked(t: &mut [u8; 256], keys: &[u8; 16], sharpness: Sharpness) -> Changed
+    requires { (length t.old ≡ 256) × Keys keys.now }
+    ensures { Filtered sharpness.level keys.now t.old t.new result }
 {
     let arms = lane_arms(t, keys, sharpness);
     let four = any_arm(&arms, 1);

@@ -5,6 +5,7 @@ ghost use Rattle.window.specs.Stencil.{applied, in_turn};
 ghost use Rattle.window.specs.WindowLaws.{Lent};
 ghost use Rattle.byte_lanes.specs.ByteLanes.{Keys};
 
+use base::sharpness::Sharpness;
 use border_position::filter_position_unchecked;
 use strength::LimitTable;
 use tap_places::position::Position;
@@ -25,7 +26,7 @@ fn filter_keyed(
 {
     let level = key % 64;
     if 0 < level {
-        let strength = limits.strength_unchecked(level, sharpness);
+        let strength = limits.strength_unchecked(level, Sharpness { level: sharpness });
         filter_position_unchecked(samples, g, p, 8, key / 64, strength);
     }
 }

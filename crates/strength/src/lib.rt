@@ -9,6 +9,7 @@ ghost use Rattle.strength.specs.StrengthLaws.{Limits};
 mod limits;
 
 use base::fault::Fault;
+use base::sharpness::Sharpness;
 use limits::LIMITS;
 
 pub const NEARESTMV: u8 = 10;
@@ -50,11 +51,11 @@ pub fn limits_table() -> LimitTable {
 
 impl LimitTable {
     // The work without the tests.
-    pub fn strength_unchecked(&self, lvl: u8, sharpness: u8) -> FilterStrength
-        requires { (lvl ≤ 63) × (sharpness ≤ 7) }
-        ensures { result ≡ strength_of lvl sharpness }
+    pub fn strength_unchecked(&self, lvl: u8, sharpness: Sharpness) -> FilterStrength
+        requires { lvl ≤ 63 }
+        ensures { result ≡ strength_of lvl sharpness.level }
     {
-        let limit = self.limits[sharpness as usize * 64 + lvl as usize];
+        let limit = self.limits[usize::from(sharpness.level) * 64 + usize::from(lvl)];
         FilterStrength {
             lvl,
             limit,
@@ -69,9 +70,9 @@ impl LimitTable {
 pub fn strength_for_level(lvl: u8, sharpness: u8) -> Result<FilterStrength, Fault>
     ensures { outcome_of result ≡ strength_for lvl sharpness }
 {
-    if 7 < sharpness {
+    let Some(sharpness) = Sharpness::new(sharpness) else {
         return Err(Fault::Sharpness);
-    }
+    };
     if 63 < lvl {
         return Err(Fault::Level(0));
     }

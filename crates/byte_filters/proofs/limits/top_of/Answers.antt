@@ -6,4 +6,4 @@ pub returns-then-sharpness-eq0 : goal.returns-then-sharpness-eq0
 returns-then-sharpness-eq0 c = (rw c.if-sharpness-eq0.true, omega arith, omega arith)
 
 pub returns-else-sharpness-eq0 : goal.returns-else-sharpness-eq0
-returns-else-sharpness-eq0 c = (rw (ne_eqb c.args.sharpness 0 c.if-sharpness-eq0.false), omega arith, omega arith)
+returns-else-sharpness-eq0 c = (rw (ne_eqb c.args.sharpness.level 0 c.if-sharpness-eq0.false), omega arith, omega arith)

@@ -4,7 +4,7 @@ use Rattle.pass.specs.WorkLaws.{filtered_on, filtered_off, depth_12}
 use Rattle.pass.proofs.edge.filter_pending.Goals as goal
 
 pub strength_unchecked-strength-requires : goal.strength_unchecked-strength-requires
-strength_unchecked-strength-requires c = let p = c.requires in (p.1.level, p.0.sharp)
+strength_unchecked-strength-requires c = c.requires.1.level
 
 pub filter_run_unchecked-requires : goal.filter_run_unchecked-requires
 filter_run_unchecked-requires c =

@@ -6,10 +6,11 @@ use Rattle.strength.proofs.LimitTable.strength_unchecked.Goals as goal
 pub overflow_add-result-2 : goal.overflow_add-result-2
 overflow_add-result-2 c =
     let a = c.args in
-    let p = c.requires in
-    let ruled = a.self.now.ruled in
-    omega (arith, limit_small a.lvl a.sharpness p.0, ruled.limit a.lvl a.sharpness p.0 p.1)
+    let limit = a.self.now.ruled.limit a.lvl a.sharpness.level c.requires a.sharpness.small in
+    rw (c.from.ensures, c.from-2.ensures, limit) (record { fits = omega (arith, limit_small a.lvl a.sharpness.level c.requires) })
 
 pub returns : goal.returns
 unfolding strength_of
-returns c = let p = c.requires in let ruled = c.args.self.now.ruled in rw (ruled.limit c.args.lvl c.args.sharpness p.0 p.1)
+returns c =
+    let a = c.args in
+    rw (c.from.ensures, c.from-2.ensures, a.self.now.ruled.limit a.lvl a.sharpness.level c.requires a.sharpness.small)
