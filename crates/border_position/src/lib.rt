@@ -61,17 +61,17 @@ pub fn filter_position_unchecked<S: Sample>(
     samples: &mut [S],
     g: WindowShape,
     p: Position,
-    depth: u8,
+    depth: Depth,
     size: u8,
     strength: FilterStrength,
 )
-    requires { Lent g (length samples.old) × (admits S.width depth ≡ true) }
-    ensures { map S.value samples.new ≡ applied (stencil g p.pass p.x p.y true (sample_filtering depth size strength.limit strength.blimit strength.thresh)) (map S.value samples.old) }
+    requires { Lent g (length samples.old) × (admits S.width depth.bits ≡ true) }
+    ensures { map S.value samples.new ≡ applied (stencil g p.pass p.x p.y true (sample_filtering depth.bits size strength.limit strength.blimit strength.thresh)) (map S.value samples.old) }
 {
     let mut t = load(samples, g, p);
     sample_filtering_unchecked(
         &mut t,
-        Depth { bits: depth },
+        depth,
         size,
         strength.limit,
         strength.blimit,

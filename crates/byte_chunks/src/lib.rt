@@ -2,7 +2,7 @@
 #![tactic(auto)]
 
 ghost use Rattle.std.specs.List.{fold};
-ghost use Rattle.std.specs.Prelude.{◌≡◌, ◌⊎◌, ◌≤◌, get_or, ◌||◌, leb, false};
+ghost use Rattle.std.specs.Prelude.{◌≡◌, ◌⊎◌, get_or, ◌||◌, leb, false};
 ghost use Rattle.byte_lanes.specs.ByteLanes.{Keys};
 ghost use Rattle.lane_runs.specs.Spread.{SpacedRun};
 ghost use Rattle.lanes.specs.KeyLine.{key_line};
@@ -30,10 +30,10 @@ pub fn filter_chunk_unchecked(
     along: usize,
     n: usize,
     keys: &[u8; 16],
-    sharpness: u8,
+    sharpness: Sharpness,
 )
-    requires { SpacedRun at step along n samples.old × ((step ≡ 1) ⊎ (along ≡ 1)) × Keys keys.now × (sharpness ≤ 7) }
-    ensures { samples.new ≡ in_turn (plain_lines at step along (λ k. key_line sharpness 8 (get_or keys.now k 0))) n samples.old }
+    requires { SpacedRun at step along n samples.old × ((step ≡ 1) ⊎ (along ≡ 1)) × Keys keys.now }
+    ensures { samples.new ≡ in_turn (plain_lines at step along (λ k. key_line sharpness.level 8 (get_or keys.now k 0))) n samples.old }
 {
     if n == 0 {
         return;
@@ -41,7 +41,7 @@ pub fn filter_chunk_unchecked(
     let all = any_large(keys);
     let mut t = [0u8; 256];
     load_lanes_unchecked(&mut t, samples, at, step, along, n, all);
-    let changed = filter_byte_lanes_unchecked(&mut t, keys, Sharpness { level: sharpness });
+    let changed = filter_byte_lanes_unchecked(&mut t, keys, sharpness);
     if changed.some {
         store_lanes_unchecked(samples, at, step, along, n, &mut t, changed.outer);
     }

@@ -5,6 +5,7 @@ ghost use Rattle.window.specs.Stencil.{applied, in_turn};
 ghost use Rattle.window.specs.WindowLaws.{Lent};
 ghost use Rattle.byte_lanes.specs.ByteLanes.{Keys};
 
+use base::depth::Depth;
 use base::sharpness::Sharpness;
 use border_position::filter_position_unchecked;
 use strength::LimitTable;
@@ -13,6 +14,7 @@ use tap_places::run_start::RunStart;
 use window::WindowShape;
 
 // Level 0 filters nothing.
+#[tactic(auto, unfolding(base::specs::Depth::supported))]
 fn filter_keyed(
     samples: &mut [u8],
     g: WindowShape,
@@ -27,7 +29,7 @@ fn filter_keyed(
     let level = key % 64;
     if 0 < level {
         let strength = limits.strength_unchecked(level, Sharpness { level: sharpness });
-        filter_position_unchecked(samples, g, p, 8, key / 64, strength);
+        filter_position_unchecked(samples, g, p, Depth { bits: 8 }, key / 64, strength);
     }
 }
 

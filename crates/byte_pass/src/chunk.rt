@@ -10,6 +10,7 @@ ghost use Rattle.byte_lanes.specs.ByteLanes.{Keys};
 
 use crate::border::filter_border;
 use crate::chunk_keys::{chunk_filters, chunk_keys};
+use base::sharpness::Sharpness;
 use byte_chunks::filter_chunk_unchecked;
 use geometry::{Pass, Superblock};
 use positions::EdgePosition;
@@ -37,7 +38,7 @@ fn filter_inside(
         start.along_step(g),
         n,
         keys,
-        sharpness,
+        Sharpness { level: sharpness },
     );
 }
 

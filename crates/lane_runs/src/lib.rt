@@ -2,7 +2,6 @@
 #![tactic(auto)]
 
 ghost use Rattle.std.specs.Prelude.{◌≡◌, true, ◌⊎◌, ◌+◌, ◌*◌, ◌≤◌, ◌<◌, length, get_or};
-ghost use Rattle.base.specs.Depth.{supported};
 ghost use Rattle.line.specs.SampleFiltering.{sample_filtering};
 ghost use Rattle.window.specs.InsideRun.{plain_run};
 ghost use Rattle.window.specs.Stencil.{in_turn};
@@ -14,6 +13,7 @@ mod lines;
 pub mod rows;
 
 use across::Across;
+use base::depth::Depth;
 use down::Down;
 use lines::filter_lines;
 use strength::FilterStrength;
@@ -26,12 +26,12 @@ pub fn filter_lane_run_unchecked(
     step: usize,
     along: usize,
     n: usize,
-    depth: u8,
+    depth: Depth,
     size: u8,
     strength: FilterStrength,
 )
-    requires { LaneRun at step along n samples.old × ((step ≡ 1) ⊎ (along ≡ 1)) × (supported depth ≡ true) × (size ≤ 2) }
-    ensures { samples.new ≡ in_turn (plain_run at step along (sample_filtering depth size strength.limit strength.blimit strength.thresh)) n samples.old }
+    requires { LaneRun at step along n samples.old × ((step ≡ 1) ⊎ (along ≡ 1)) }
+    ensures { samples.new ≡ in_turn (plain_run at step along (sample_filtering depth.bits size strength.limit strength.blimit strength.thresh)) n samples.old }
 {
     if n == 0 {
         return;

@@ -1,6 +1,5 @@
 // The lines of a run, which stand one way or the other: loaded into lanes, filtered, and stored.
 ghost use Rattle.std.specs.Prelude.{◌≡◌, true, ℕ, ◌+◌, ◌*◌, ◌≤◌, ◌<◌, get_or};
-ghost use Rattle.base.specs.Depth.{supported};
 ghost use Rattle.line.specs.SampleFiltering.{sample_filtering};
 ghost use Rattle.line.specs.SampleFilteringLaws.{reads, changes};
 ghost use Rattle.window.specs.InsideRun.{plain_run};
@@ -51,16 +50,16 @@ fn filter_sized<L: Lines, const SIZE: u8>(
     samples: &mut [u16],
     at: usize,
     n: usize,
-    depth: u8,
+    depth: Depth,
     strength: FilterStrength,
 )
-    requires { LaneRun at (L.step lines) (L.along lines) n samples.old × (0 < n) × (supported depth ≡ true) × (SIZE ≤ 2) }
-    ensures { samples.new ≡ in_turn (plain_run at (L.step lines) (L.along lines) (sample_filtering depth SIZE strength.limit strength.blimit strength.thresh)) n samples.old }
+    requires { LaneRun at (L.step lines) (L.along lines) n samples.old × (0 < n) × (SIZE ≤ 2) }
+    ensures { samples.new ≡ in_turn (plain_run at (L.step lines) (L.along lines) (sample_filtering depth.bits SIZE strength.limit strength.blimit strength.thresh)) n samples.old }
 {
     let read = reads(SIZE);
     let changed = changes(SIZE);
     let mut t = lines.gather(samples, at, n, 8 - read, 2 * read);
-    if filter_lanes_unchecked(&mut t, n, Depth { bits: depth }, SIZE, strength) {
+    if filter_lanes_unchecked(&mut t, n, depth, SIZE, strength) {
         lines.scatter(samples, at, n, &t, 8 - changed, 2 * changed);
     }
 }
@@ -70,12 +69,12 @@ pub(crate) fn filter_lines<L: Lines>(
     samples: &mut [u16],
     at: usize,
     n: usize,
-    depth: u8,
+    depth: Depth,
     size: u8,
     strength: FilterStrength,
 )
-    requires { LaneRun at (L.step lines) (L.along lines) n samples.old × (0 < n) × (supported depth ≡ true) × (size ≤ 2) }
-    ensures { samples.new ≡ in_turn (plain_run at (L.step lines) (L.along lines) (sample_filtering depth size strength.limit strength.blimit strength.thresh)) n samples.old }
+    requires { LaneRun at (L.step lines) (L.along lines) n samples.old × (0 < n) }
+    ensures { samples.new ≡ in_turn (plain_run at (L.step lines) (L.along lines) (sample_filtering depth.bits size strength.limit strength.blimit strength.thresh)) n samples.old }
 {
     match size {
         0 => filter_sized::<L, 0>(lines, samples, at, n, depth, strength),

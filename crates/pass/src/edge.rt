@@ -8,6 +8,7 @@ ghost use Rattle.pass.specs.WorkLaws.{Able, run_filtered, runs_filtered};
 ghost use Rattle.pass.specs.WalkLaws.{Walk};
 
 use base::sharpness::Sharpness;
+use base::depth::Depth;
 use decided::{EdgeRun, joins_unchecked, key_run_unchecked, longer_unchecked, no_run};
 use geometry::{Pass, Superblock};
 use keys::Keys;
@@ -41,6 +42,7 @@ fn filter_pending(
         let x = start.plane_x();
         let y = start.plane_y();
         let strength = limits.strength_unchecked(a.level, Sharpness { level: sharpness });
+        let depth = Depth { bits: depth };
         filter_run_unchecked(samples, g, pass, x, y, a.count, depth, a.size, strength);
     }
 }

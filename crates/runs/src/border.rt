@@ -1,11 +1,11 @@
 // Runs at the border of the window, position by position.
 ghost use Rattle.std.specs.Prelude.{◌≡◌, true, ◌≤◌, length};
-ghost use Rattle.base.specs.Depth.{supported};
 ghost use Rattle.line.specs.SampleFiltering.{sample_filtering};
 ghost use Rattle.window.specs.Stencil.{in_turn};
 ghost use Rattle.window.specs.Window.{run_of};
 ghost use Rattle.window.specs.WindowLaws.{Lent};
 
+use base::depth::Depth;
 use border_position::filter_position_unchecked;
 use strength::FilterStrength;
 use tap_places::run_start::RunStart;
@@ -16,12 +16,12 @@ pub(crate) fn filter_border(
     g: WindowShape,
     start: RunStart,
     n: usize,
-    depth: u8,
+    depth: Depth,
     size: u8,
     strength: FilterStrength,
 )
-    requires { Lent g (length samples.old) × (n ≤ 64) × (supported depth ≡ true) }
-    ensures { samples.new ≡ in_turn (run_of g start.pass start.x start.y (sample_filtering depth size strength.limit strength.blimit strength.thresh)) n samples.old }
+    requires { Lent g (length samples.old) × (n ≤ 64) }
+    ensures { samples.new ≡ in_turn (run_of g start.pass start.x start.y (sample_filtering depth.bits size strength.limit strength.blimit strength.thresh)) n samples.old }
 {
     for k in 0..n {
         let p = start.position_unchecked(k);

@@ -2,7 +2,6 @@
 #![tactic(auto)]
 
 ghost use Rattle.std.specs.Prelude.{◌≡◌, true, ◌≤◌, length};
-ghost use Rattle.base.specs.Depth.{supported};
 ghost use Rattle.line.specs.SampleFiltering.{sample_filtering};
 ghost use Rattle.window.specs.Stencil.{in_turn};
 ghost use Rattle.window.specs.Window.{run_of};
@@ -11,6 +10,7 @@ ghost use Rattle.window.specs.RangeLaws.{InRange};
 
 mod border;
 
+use base::depth::Depth;
 use border::filter_border;
 use geometry::{Pass, Plane};
 use lane_runs::filter_lane_run_unchecked;
@@ -27,12 +27,12 @@ pub fn filter_run_unchecked(
     x: Plane,
     y: Plane,
     n: usize,
-    depth: u8,
+    depth: Depth,
     size: u8,
     strength: FilterStrength,
 )
-    requires { Lent g (length samples.old) × (x.0 ≤ 131072) × (y.0 ≤ 131072) × (n ≤ 16) × (supported depth ≡ true) × (size ≤ 2) × InRange g 4096 samples.old }
-    ensures { samples.new ≡ in_turn (run_of g pass x.0 y.0 (sample_filtering depth size strength.limit strength.blimit strength.thresh)) n samples.old }
+    requires { Lent g (length samples.old) × (x.0 ≤ 131072) × (y.0 ≤ 131072) × (n ≤ 16) × InRange g 4096 samples.old }
+    ensures { samples.new ≡ in_turn (run_of g pass x.0 y.0 (sample_filtering depth.bits size strength.limit strength.blimit strength.thresh)) n samples.old }
 {
     let start = RunStart {
         pass,

@@ -1,13 +1,9 @@
 use Rattle.std.proofs.Common.{true}
-use Rattle.base.specs.Width.{admits-supported}
 use Rattle.line.specs.SampleFiltering.{sample_filtering}
 use Rattle.window.specs.StencilLaws.{applied-made}
 use Rattle.window.specs.Window.{stencil}
 use Rattle.border_position.specs.Holds.{line_held}
 use Rattle.border_position.proofs.filter_position_unchecked.Goals as goal
-
-pub invariant_of-sample_filtering_unchecked : goal.invariant_of-sample_filtering_unchecked
-invariant_of-sample_filtering_unchecked g c = record { known = admits-supported _ _ c.requires.1 }
 
 pub store-requires : goal.store-requires
 store-requires g c =
@@ -16,5 +12,5 @@ store-requires g c =
 pub returns : goal.returns
 returns g c =
     let a = c.args in
-    applied-made (stencil a.g a.p.pass a.p.x a.p.y true (sample_filtering a.depth a.size a.strength.limit a.strength.blimit a.strength.thresh)) _ _ _ _
+    applied-made (stencil a.g a.p.pass a.p.x a.p.y true (sample_filtering a.depth.bits a.size a.strength.limit a.strength.blimit a.strength.thresh)) _ _ _ _
     c.load-t.ensures.0 c.sample_filtering_unchecked.ensures c.store.ensures

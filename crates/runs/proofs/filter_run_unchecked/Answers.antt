@@ -1,6 +1,6 @@
-use Rattle.std.proofs.Common.{◌≡◌, sym, ◌∙◌, true}
+use Rattle.std.proofs.Common.{sym, ◌∙◌}
 use Rattle.line.specs.SampleFiltering.{sample_filtering}
-use Rattle.window.specs.InsideRun.{inside_run, run_plain}
+use Rattle.window.specs.InsideRun.{run_plain}
 use Rattle.runs.specs.RunsLaws.{inside_lanes, one_step}
 use Rattle.runs.proofs.filter_run_unchecked.Goals as goal
 
@@ -10,11 +10,11 @@ filter_lane_run_unchecked-requires c =
     let p = c.requires in
     let inside = sym c.is_inside_unchecked.ensures ∙ c.if-is_inside_unchecked.true in
     rw (c.first_tap_unchecked-at.ensures, c.tap_step.ensures, c.along_step.ensures)
-    (inside_lanes a.g a.pass a.x.0 a.y.0 a.n a.samples.now p.0 inside p.3 p.6, one_step a.g a.pass, p.4, p.5)
+    (inside_lanes a.g a.pass a.x.0 a.y.0 a.n a.samples.now p.0 inside p.3 p.4, one_step a.g a.pass)
 
 pub returns-then-is_inside_unchecked : goal.returns-then-is_inside_unchecked
 returns-then-is_inside_unchecked c =
     let a = c.args in
     let inside = sym c.is_inside_unchecked.ensures ∙ c.if-is_inside_unchecked.true in
     (rw (c.first_tap_unchecked-at.ensures, c.tap_step.ensures, c.along_step.ensures) at c.filter_lane_run_unchecked.ensures)
-    ∙ run_plain a.g a.pass a.x.0 a.y.0 a.n (sample_filtering a.depth a.size a.strength.limit a.strength.blimit a.strength.thresh) a.samples.now inside
+    ∙ run_plain a.g a.pass a.x.0 a.y.0 a.n (sample_filtering a.depth.bits a.size a.strength.limit a.strength.blimit a.strength.thresh) a.samples.now inside

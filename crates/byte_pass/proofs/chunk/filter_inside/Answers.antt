@@ -8,7 +8,7 @@ filter_chunk_unchecked-requires c =
     let a = c.args in
     let p = c.requires in
     rw (c.first_tap_unchecked-at.ensures, c.tap_step.ensures, c.along_step.ensures)
-    (inside_spaced a.g a.start.pass a.start.x a.start.y a.n a.samples.now p.0 p.1 p.2, one_step a.g a.start.pass, p.4, p.3)
+    (inside_spaced a.g a.start.pass a.start.x a.start.y a.n a.samples.now p.0 p.1 p.2, one_step a.g a.start.pass, p.4)
 
 pub returns : goal.returns
 returns c =

@@ -9,7 +9,7 @@ strength_unchecked-strength-requires c = c.requires.1.level
 pub filter_run_unchecked-requires : goal.filter_run_unchecked-requires
 filter_run_unchecked-requires c =
     let p = c.requires in
-    (p.0.window, omega (arith, c.plane_x-x.ensures.1), omega (arith, c.plane_y-y.ensures.1), p.1.count, p.0.deep, p.1.size, range_wider _ _ 4096 _ (depth_12 _ p.0.deep) p.0.range)
+    (p.0.window, omega (arith, c.plane_x-x.ensures.1), omega (arith, c.plane_y-y.ensures.1), p.1.count, range_wider _ _ 4096 _ (depth_12 _ p.0.deep) p.0.range)
 
 pub returns-then-a-gt0 : goal.returns-then-a-gt0
 returns-then-a-gt0 c =
