@@ -13,7 +13,7 @@ use crate::chunk_keys::{chunk_filters, chunk_keys};
 use base::sharpness::Sharpness;
 use byte_chunks::filter_chunk_unchecked;
 use geometry::{Pass, Superblock};
-use positions::EdgePosition;
+use positions::{EdgePosition, PlacedSuperblock};
 use strength::LimitTable;
 use tap_places::run_start::RunStart;
 use window::WindowShape;
@@ -79,7 +79,7 @@ pub(crate) fn filter_chunk(
     if chunk_filters(keys, s, pass, edge, m) {
         let along = chunk_keys(keys, s, pass, edge, m);
         let first = EdgePosition {
-            s,
+            s: PlacedSuperblock { of: s },
             pass,
             edge,
             i: 16 * m,

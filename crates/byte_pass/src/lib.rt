@@ -30,6 +30,7 @@ use faults::number_faults;
 use geometry::{Pass, Superblock, cell_count_unchecked};
 use keys::keys_unchecked;
 use pass_edges::pass_of;
+use positions::PlacedSuperblock;
 use window::{WindowShape, bad_window};
 
 // The work without the tests, for a caller that has made them. The superblock has the subsampling that holds in the plane.
@@ -45,7 +46,7 @@ pub fn superblock_loop_filter_bytes_unchecked(
     requires { Ready g (setting s chroma sharpness 8 cells.now) samples.old }
     ensures { samples.new ≡ superblock_loop_filter g (setting s chroma sharpness 8 cells.now) pass samples.old }
 {
-    let keys = keys_unchecked(cells, s, pass, chroma);
+    let keys = keys_unchecked(cells, PlacedSuperblock { of: s }, pass, chroma);
     filter_keys(samples, g, s, pass, sharpness, &keys);
 }
 
@@ -62,7 +63,7 @@ fn test_levels_and_filter(
     requires { Ready g (setting s chroma sharpness 8 (words_of cells.now)) samples.old }
     ensures { Answers (refuse_first (levelless s pass chroma (words_of cells.now)) (64 * edge_count s pass) 14 (accepted (superblock_loop_filter g (setting s chroma sharpness 8 (words_of cells.now)) pass samples.old))) (returned_of result) samples.old samples.new }
 {
-    let keys = keys_unchecked(cells, s, pass, chroma);
+    let keys = keys_unchecked(cells, PlacedSuperblock { of: s }, pass, chroma);
     if let Some(place) = keys.lacking {
         return Err(Fault::NoLevel(place));
     }

@@ -1,9 +1,9 @@
 // The steps of 8.8.2 at one position of a superblock, plane and pass.
 ghost use Rattle.std.specs.Prelude.{◌≡◌, ◌^◌, ◌≤◌, ◌<◌};
 ghost use Rattle.edge_steps.specs.SuperblockFilter.{multiple, loop_cell, last_column, is_tx_edge, is32_edge, at_border, on_screen, apply_filter};
-ghost use Rattle.positions.specs.Positions.{Placed};
 
-use geometry::{Luma, Pass, Superblock};
+use geometry::{Luma, Pass};
+use positions::PlacedSuperblock;
 
 // A cell's column or row, on the subsampling grid.
 pub fn loop_cell_unchecked(at: Luma, sub: bool) -> usize
@@ -26,21 +26,27 @@ fn is_multiple(n: usize, log: u8) -> bool
     }
 }
 
-fn last_column(s: Superblock, pass: Pass, edge: usize, x: Luma) -> bool
-    requires { Placed s × (x.0 < 65792) }
-    ensures { result ≡ last_column s pass edge x.0 }
+fn last_column(s: PlacedSuperblock, pass: Pass, edge: usize, x: Luma) -> bool
+    requires { x.0 < 65792 }
+    ensures { result ≡ last_column s.of pass edge x.0 }
 {
     match pass {
         Pass::Vertical => false,
         Pass::Horizontal => {
-            s.subx & (s.cols % 2 == 1) & (edge % 2 == 1) & (s.cols * 8 <= x.0 + 8)
+            s.of.subx & (s.of.cols % 2 == 1) & (edge % 2 == 1) & (s.of.cols * 8 <= x.0 + 8)
         }
     }
 }
 
-pub fn is_tx_edge_unchecked(s: Superblock, pass: Pass, edge: usize, x: Luma, tx_sz: u8) -> bool
-    requires { Placed s × (x.0 < 65792) × (tx_sz ≤ 3) }
-    ensures { result ≡ is_tx_edge s pass edge x.0 tx_sz }
+pub fn is_tx_edge_unchecked(
+    s: PlacedSuperblock,
+    pass: Pass,
+    edge: usize,
+    x: Luma,
+    tx_sz: u8,
+) -> bool
+    requires { (x.0 < 65792) × (tx_sz ≤ 3) }
+    ensures { result ≡ is_tx_edge s.of pass edge x.0 tx_sz }
 {
     !last_column(s, pass, edge, x) & is_multiple(edge, tx_sz)
 }
@@ -60,11 +66,10 @@ fn at_border(pass: Pass, x: Luma, y: Luma) -> bool
     }
 }
 
-pub fn on_screen_unchecked(s: Superblock, pass: Pass, x: Luma, y: Luma) -> bool
-    requires { Placed s }
-    ensures { result ≡ on_screen s pass x.0 y.0 }
+pub fn on_screen(s: PlacedSuperblock, pass: Pass, x: Luma, y: Luma) -> bool
+    ensures { result ≡ on_screen s.of pass x.0 y.0 }
 {
-    !((8 * s.cols <= x.0) | (8 * s.rows <= y.0) | at_border(pass, x, y))
+    !((8 * s.of.cols <= x.0) | (8 * s.of.rows <= y.0) | at_border(pass, x, y))
 }
 
 pub fn apply_filter(screen: bool, block: bool, transform: bool, intra: bool, skip: bool) -> bool

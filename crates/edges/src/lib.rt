@@ -4,7 +4,6 @@
 ghost use Rattle.std.specs.Prelude.{◌≡◌, ◌≤◌, ◌<◌};
 ghost use Rattle.base.specs.Fault.{outcome_of};
 ghost use Rattle.blocks.specs.ModeInfoLaws.{Block};
-ghost use Rattle.positions.specs.Positions.{Placed};
 ghost use Rattle.edges.specs.Edge.{block_edge, edge_facts, superblock_filter_edge};
 
 use base::fault::Fault;
@@ -12,11 +11,11 @@ use blocks::mode_info::{bad_block, is_intra, sb_size};
 use blocks::partition::{num_8x8_high_unchecked, num_8x8_wide_unchecked};
 use edge_steps::filter_size::filter_size;
 use edge_steps::superblock_filter::{
-    apply_filter, is_32_edge, is_tx_edge_unchecked, loop_cell_unchecked, on_screen_unchecked,
+    apply_filter, is_32_edge, is_tx_edge_unchecked, loop_cell_unchecked, on_screen,
 };
 use geometry::{Luma, Pass, Superblock, bad_frame_size, bad_start, bad_subsampling};
 use pass_edges::{edge_count, edge_len, pass_of};
-use positions::EdgePosition;
+use positions::{EdgePosition, PlacedSuperblock};
 
 // What an edge reads of its cell: MiSize, the transform that holds in the plane, skip, and reference 0.
 #[derive(Clone, Copy, Debug, PartialEq, Eq)]
@@ -59,25 +58,23 @@ fn is_block_edge(s: Superblock, pass: Pass, x: Luma, y: Luma, mi_size: u8) -> bo
 }
 
 // The work without the tests, for a caller that has made them.
+#[tactic(auto, unfolding(crate::specs::Edge::edge_facts))]
 pub fn superblock_filter_edge_unchecked(
-    s: Superblock,
-    pass: Pass,
-    edge: usize,
-    i: usize,
+    at: EdgePosition,
     mi: SuperblockFilterMi,
 ) -> SuperblockFilterEdge
-    requires { Placed s × (edge < 16) × (i < 64) × Block mi.mi_size mi.tx_sz mi.skip }
-    ensures { result ≡ edge_facts s pass edge i mi }
+    requires { Block mi.mi_size mi.tx_sz mi.skip }
+    ensures { result ≡ edge_facts at.s.of at.pass at.edge at.i mi }
 {
-    let position = EdgePosition { s, pass, edge, i };
-    let x = position.luma_x();
-    let y = position.luma_y();
-    let block = is_block_edge(s, pass, x, y, mi.mi_size);
-    let transform = is_tx_edge_unchecked(s, pass, edge, x, mi.tx_sz);
-    let is_32 = is_32_edge(edge);
-    let screen = on_screen_unchecked(s, pass, x, y);
+    let s = at.s.of;
+    let x = at.luma_x();
+    let y = at.luma_y();
+    let block = is_block_edge(s, at.pass, x, y, mi.mi_size);
+    let transform = is_tx_edge_unchecked(at.s, at.pass, at.edge, x, mi.tx_sz);
+    let is_32 = is_32_edge(at.edge);
+    let screen = on_screen(at.s, at.pass, x, y);
     let intra = is_intra(mi.ref_frame);
-    let size = filter_size(s, pass, mi.tx_sz, is_32, x, y);
+    let size = filter_size(s, at.pass, mi.tx_sz, is_32, x, y);
     SuperblockFilterEdge {
         x,
         y,
@@ -93,7 +90,7 @@ pub fn superblock_filter_edge_unchecked(
 }
 
 // Takes any numbers. The subsampling and the transform are those that hold in the plane.
-#[tactic(auto, unfolding(crate::specs::Edge::superblock_filter_edge, crate::specs::Edge::off_grid))]
+#[tactic(auto, unfolding(crate::specs::Edge::superblock_filter_edge, crate::specs::Edge::off_grid), using(blocks::specs::ModeInfoLaws::block, positions::specs::PositionsLaws::placed))]
 pub fn superblock_filter_edge(
     pass: u8,
     row: usize,
@@ -138,5 +135,11 @@ pub fn superblock_filter_edge(
     if (edge_count(s, direction) <= edge) | (edge_len(s, direction) <= i) {
         return Err(Fault::Position);
     }
-    Ok(superblock_filter_edge_unchecked(s, direction, edge, i, mi))
+    let at = EdgePosition {
+        s: PlacedSuperblock { of: s },
+        pass: direction,
+        edge,
+        i,
+    };
+    Ok(superblock_filter_edge_unchecked(at, mi))
 }

@@ -41,30 +41,6 @@ unfolding word_in
 more_words t cells e l = more _ _ e l (λ k h. rw h)
 
 -- the word that is fetched for cell c of edge pair e
-module _ (base : ℕ) (paired : Bool) (along e c : ℕ) (l : c < 8) where
-  pub word_of_pair : (cells : List ℕ) → word_from base paired along cells (8 * e + c) ≡ get_or cells (clamped (place_from base paired along c) (length cells)) 0
-  unfolding word_from
-  word_of_pair cells = let cell : (8 * e + c) % 8 ≡ c = omega arith in rw cell
-
-  -- where the cells arrive as bytes
-  pub word_of_bytes : (bytes : List ℕ) (at : ℕ) → at ≡ clamped (place_from base paired along c) (length bytes / 4) → at < length bytes / 4
-      → word_from base paired along (words_of bytes) (8 * e + c) ≡ bytes_at bytes (4 * at) 4
-  word_of_bytes bytes at is h = word_of_pair (words_of bytes) ∙ (rw (words_of-length bytes, ← is) (words_of_each bytes at h))
-
-shift_small : (b : Bool) (m n : ℕ) → m < 32 → n < 32 → cond b m n < 32
-shift_small true m n h k = h
-shift_small false m n h k = k
-
-turned_small : (s : Superblock) (pass : Pass) (chroma : Bool) → Placed s → Small (turned_of s pass chroma)
-unfolding turned_of
-turned_small s Vertical chroma p =
-    record { start = omega arith; from = omega arith; across = omega arith; along = omega arith; log = shift_small s.subx 28 30 (omega arith) (omega arith); tx = shift_small chroma 20 22 (omega arith) (omega arith) }
-turned_small s Horizontal chroma p =
-    record { start = omega arith; from = omega arith; across = omega arith; along = omega arith; log = shift_small s.suby 24 26 (omega arith) (omega arith); tx = shift_small chroma 20 22 (omega arith) (omega arith) }
-
-pub turned_is : (s : Superblock) (pass : Pass) (chroma : Bool) → Placed s → (t : Turned) → t ≡ turned_of s pass chroma → (t ≡ turned_of s pass chroma) × Small t
-turned_is s pass chroma p t e = (e, rw e (turned_small s pass chroma p))
-
--- there is a cell
-pub some_cells : (s : Superblock) → Placed s → 0 < cells_from s.row s.cols s.rows
-some_cells s p = mul-le-mul {n₁ = 1} {m₁ = 1} {n₂ = rows_from s.row s.rows} {m₂ = s.cols} (omega arith) (omega arith)
+pub word_of_pair : (base : ℕ) (paired : Bool) (along e c : ℕ) → c < 8 → (cells : List ℕ) → word_from base paired along cells (8 * e + c) ≡ get_or cells (clamped (place_from base paired along c) (length cells)) 0
+unfolding word_from
+word_of_pair base paired along e c l cells = let cell : (8 * e + c) % 8 ≡ c = omega arith in rw cell

@@ -5,7 +5,7 @@ ghost use Rattle.decisions.specs.Decision.{without_level};
 ghost use Rattle.keys.specs.Keys.{key_of};
 ghost use Rattle.keys.specs.PlainKeys.{halvings, own, limits_of, plain};
 
-use crate::turned::{Turned, either};
+use crate::turned::{SmallTurned, either};
 
 // What decides of the cells along an edge.
 #[derive(Clone, Copy)]
@@ -57,10 +57,11 @@ fn own_cell(sub: bool, edge: usize) -> usize
 }
 
 // What decides of the cells along an edge of a pass.
-pub(crate) fn limits_of(t: Turned, edge: usize) -> EdgeLimits
-    requires { (t.start ≤ 8192) × (edge < 16) }
-    ensures { result ≡ limits_of t edge }
+pub(crate) fn limits_of(t: SmallTurned, edge: usize) -> EdgeLimits
+    requires { edge < 16 }
+    ensures { result ≡ limits_of t.of edge }
 {
+    let t = t.of;
     let at = t.start + own_cell(t.sub, edge);
     let on = (at < t.count) & !((edge == 0) & (t.start == 0));
     let n = halvings_of(edge);

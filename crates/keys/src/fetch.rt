@@ -1,12 +1,9 @@
 // The words that the edges of a pass read: cell c of edge pair e at 8 * e + c.
 ghost use Rattle.std.specs.Prelude.{◌≡◌, ◌+◌, ◌*◌, ◌≤◌, ◌<◌, length};
 ghost use Rattle.base.specs.Filled.{filled};
-ghost use Rattle.geometry.specs.Frame.{cells_from};
-ghost use Rattle.positions.specs.Positions.{Placed};
-ghost use Rattle.keys.specs.PlainKeys.{turned_of, pairs, offset, rounded, clamped, base_of, place_from, word_from, fetched, Small};
+ghost use Rattle.keys.specs.PlainKeys.{pairs, offset, rounded, clamped, base_of, place_from, word_from, fetched};
 
-use crate::turned::{Turned, pair_count, turned_of};
-use geometry::{Pass, Superblock};
+use crate::turned::{SmallTurned, pair_count};
 use word_bytes::Words;
 
 // The place that is so many steps behind another.
@@ -49,44 +46,31 @@ fn offset_of(sub: bool, e: usize) -> usize
 }
 
 // The place of the first cell that edge pair e reads.
-fn base_of(t: Turned, e: usize) -> usize
-    requires { Small t × (e < pairs t.sub) }
-    ensures { (result ≡ base_of t e) × (result ≤ 65536) }
+fn base_of(t: SmallTurned, e: usize) -> usize
+    requires { e < pairs t.of.sub }
+    ensures { (result ≡ base_of t.of e) × (result ≤ 65536) }
 {
-    place_at(t.from, offset_of(t.sub, e), t.across)
+    place_at(t.of.from, offset_of(t.of.sub, e), t.of.across)
 }
 
-// Fetches the words of edge pair e, from base on. The loop has no branch.
-fn fetch_pair<C: Words>(
-    words: &mut [u32; 64],
-    cells: C,
-    e: usize,
-    base: usize,
-    paired: bool,
-    along: usize,
-)
-    requires { (e < 8) × (base ≤ 65536) × (along ≤ 8192) × (0 < length (C.words cells)) }
-    ensures { words.new ≡ filled (word_from base paired along (C.words cells)) (8 * e) 8 words.old }
+// Fetches the words of edge pair e. The loop has no branch.
+fn fetch_pair<C: Words>(words: &mut [u32; 64], cells: C, t: SmallTurned, e: usize)
+    requires { (e < pairs t.of.sub) × (0 < length (C.words cells)) }
+    ensures { words.new ≡ filled (word_from (base_of t.of e) t.of.paired t.of.along (C.words cells)) (8 * e) 8 words.old }
 {
+    let base = base_of(t, e);
     let size = cells.count();
     for c in 0..8 {
-        let at = place_from(base, paired, along, c, size);
+        let at = place_from(base, t.of.paired, t.of.along, c, size);
         words[8 * e + c] = cells.word_unchecked(at);
     }
 }
 
-pub(crate) fn fetch<C: Words>(
-    words: &mut [u32; 64],
-    cells: C,
-    s: Superblock,
-    pass: Pass,
-    chroma: bool,
-)
-    requires { Placed s × (cells_from s.row s.cols s.rows ≤ length (C.words cells)) }
-    ensures { words.new ≡ fetched (turned_of s pass chroma) (C.words cells) words.old }
+pub(crate) fn fetch<C: Words>(words: &mut [u32; 64], cells: C, t: SmallTurned)
+    requires { 0 < length (C.words cells) }
+    ensures { words.new ≡ fetched t.of (C.words cells) words.old }
 {
-    let t = turned_of(s, pass, chroma);
-    for e in 0..pair_count(t.sub) {
-        fetch_pair(words, cells, e, base_of(t, e), t.paired, t.along);
+    for e in 0..pair_count(t.of.sub) {
+        fetch_pair(words, cells, t, e);
     }
 }

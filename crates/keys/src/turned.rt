@@ -1,9 +1,9 @@
 // A pass by plain numbers, of which both passes make the same use.
 ghost use Rattle.std.specs.Prelude.{◌≡◌, cond, ◌&&◌, ◌-◌, ◌%◌, ◌≤◌, ◌<◌, eqb};
-ghost use Rattle.positions.specs.Positions.{Placed};
 ghost use Rattle.keys.specs.PlainKeys.{turned_of, pairs, Small};
 
-use geometry::{Pass, Superblock};
+use geometry::Pass;
+use positions::PlacedSuperblock;
 
 // A pass, turned so that it goes from edge to edge, across, and from cell to cell along each edge.
 #[derive(Clone, Copy)]
@@ -26,6 +26,13 @@ pub(crate) struct Turned {
     pub tx: u32,
 }
 
+// Such numbers, with how large they are.
+#[derive(Clone, Copy)]
+pub(crate) struct SmallTurned {
+    pub of: Turned,
+    pub ghost small: { Small of },
+}
+
 // The second of two numbers where the flag is set, else the first.
 pub(crate) fn either(second: bool, a: u32, b: u32) -> u32
     ensures { result ≡ cond second b a }
@@ -46,12 +53,13 @@ fn coded_cells(subx: bool, cols: usize, col: usize) -> u32
 }
 
 // The numbers of a pass.
-pub(crate) fn turned_of(s: Superblock, pass: Pass, chroma: bool) -> Turned
-    requires { Placed s }
-    ensures { (result ≡ turned_of s pass chroma) × Small result }
+#[tactic(auto, unfolding(crate::specs::PlainKeys::turned_of))]
+pub(crate) fn turned_of(s: PlacedSuperblock, pass: Pass, chroma: bool) -> SmallTurned
+    ensures { result.of ≡ turned_of s.of pass chroma }
 {
+    let s = s.of;
     let tx = either(chroma, 22, 20);
-    match pass {
+    let of = match pass {
         Pass::Vertical => Turned {
             sub: s.subx,
             start: s.col,
@@ -78,7 +86,8 @@ pub(crate) fn turned_of(s: Superblock, pass: Pass, chroma: bool) -> Turned
             log: either(s.suby, 26, 24),
             tx,
         },
-    }
+    };
+    SmallTurned { of }
 }
 
 // Edges come in pairs, an outer and an inner one that read the same cells.

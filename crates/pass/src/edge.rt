@@ -13,7 +13,7 @@ use decided::{EdgeRun, joins_unchecked, key_run_unchecked, longer_unchecked, no_
 use geometry::{Pass, Superblock};
 use keys::Keys;
 use pass_edges::edge_count;
-use positions::EdgePosition;
+use positions::{EdgePosition, PlacedSuperblock};
 use runs::filter_run_unchecked;
 use strength::{LimitTable, limits_table};
 use window::WindowShape;
@@ -34,7 +34,7 @@ fn filter_pending(
 {
     if 0 < a.level {
         let start = EdgePosition {
-            s,
+            s: PlacedSuperblock { of: s },
             pass,
             edge: a.edge,
             i: a.first,

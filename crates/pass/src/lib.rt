@@ -18,14 +18,15 @@ ghost use Rattle.pass.specs.WorkLaws.{Ready};
 
 mod edge;
 
-use base::fault::Fault;
 use base::depth::is_supported;
+use base::fault::Fault;
 use decided::superblock_of;
 use edge::filter_keys;
 use faults::{list_faults_unchecked, number_faults};
 use geometry::{Pass, Superblock};
 use keys::keys_unchecked;
 use pass_edges::pass_of;
+use positions::PlacedSuperblock;
 use window::WindowShape;
 
 // The work without the tests, for a caller that has made them. The superblock has the subsampling that holds in the plane.
@@ -42,7 +43,7 @@ pub fn superblock_loop_filter_unchecked(
     requires { Ready g (setting s chroma sharpness depth cells.now) samples.old }
     ensures { samples.new ≡ superblock_loop_filter g (setting s chroma sharpness depth cells.now) pass samples.old }
 {
-    let keys = keys_unchecked(cells, s, pass, chroma);
+    let keys = keys_unchecked(cells, PlacedSuperblock { of: s }, pass, chroma);
     filter_keys(samples, g, s, pass, sharpness, depth, &keys);
 }
 
@@ -60,7 +61,7 @@ fn test_levels_and_filter(
     requires { Ready g (setting s chroma sharpness depth cells.now) samples.old }
     ensures { Answers (refuse_first (levelless s pass chroma cells.now) (64 * edge_count s pass) 14 (accepted (superblock_loop_filter g (setting s chroma sharpness depth cells.now) pass samples.old))) (returned_of result) samples.old samples.new }
 {
-    let keys = keys_unchecked(cells, s, pass, chroma);
+    let keys = keys_unchecked(cells, PlacedSuperblock { of: s }, pass, chroma);
     if let Some(place) = keys.lacking {
         return Err(Fault::NoLevel(place));
     }

@@ -14,14 +14,13 @@ pub struct PlacedSuperblock {
     pub ghost placed: { Placed of },
 }
 
-// Position i on an edge of a pass over a superblock, whose frame, row and column are tested.
+// Position i on an edge of a pass over a superblock.
 #[derive(Clone, Copy)]
 pub struct EdgePosition {
-    pub s: Superblock,
+    pub s: PlacedSuperblock,
     pub pass: Pass,
     pub edge: usize,
     pub i: usize,
-    pub ghost placed: { Placed s },
     pub ghost edge_small: { edge < 16 },
     pub ghost i_small: { i < 64 },
 }
@@ -37,9 +36,9 @@ impl EdgePosition {
     // In luma samples.
 
     pub fn luma_x(self) -> Luma
-        ensures { (result.0 ≡ luma_x self.s self.pass self.edge self.i) × (result.0 < 65792) }
+        ensures { (result.0 ≡ luma_x self.s.of self.pass self.edge self.i) × (result.0 < 65792) }
     {
-        let s = self.s;
+        let s = self.s.of;
         match self.pass {
             Pass::Vertical => Luma(s.col * 8 + self.edge * doubled(4, s.subx)),
             Pass::Horizontal => Luma(s.col * 8 + doubled(self.i, s.subx)),
@@ -47,9 +46,9 @@ impl EdgePosition {
     }
 
     pub fn luma_y(self) -> Luma
-        ensures { (result.0 ≡ luma_y self.s self.pass self.edge self.i) × (result.0 < 65792) }
+        ensures { (result.0 ≡ luma_y self.s.of self.pass self.edge self.i) × (result.0 < 65792) }
     {
-        let s = self.s;
+        let s = self.s.of;
         match self.pass {
             Pass::Vertical => Luma(s.row * 8 + doubled(self.i, s.suby)),
             Pass::Horizontal => Luma(s.row * 8 + self.edge * doubled(4, s.suby)),
@@ -59,14 +58,14 @@ impl EdgePosition {
     // In the plane.
 
     pub fn plane_x(self) -> Plane
-        ensures { (result.0 ≡ plane_x self.s self.pass self.edge self.i) × (result.0 < 65792) }
+        ensures { (result.0 ≡ plane_x self.s.of self.pass self.edge self.i) × (result.0 < 65792) }
     {
-        self.luma_x().in_plane(self.s.subx)
+        self.luma_x().in_plane(self.s.of.subx)
     }
 
     pub fn plane_y(self) -> Plane
-        ensures { (result.0 ≡ plane_y self.s self.pass self.edge self.i) × (result.0 < 65792) }
+        ensures { (result.0 ≡ plane_y self.s.of self.pass self.edge self.i) × (result.0 < 65792) }
     {
-        self.luma_y().in_plane(self.s.suby)
+        self.luma_y().in_plane(self.s.of.suby)
     }
 }

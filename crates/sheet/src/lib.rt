@@ -16,13 +16,14 @@ ghost use Rattle.word_bytes.specs.WordBytes.{words_of};
 mod runs;
 
 use bad_words::first_bad_word_unchecked;
-use base::fault::Fault;
 use base::depth::is_supported;
+use base::fault::Fault;
 use decided::superblock_of;
 use faults::number_faults;
 use geometry::cell_count_unchecked;
 use keys::keys_unchecked;
 use pass_edges::pass_of;
+use positions::PlacedSuperblock;
 use runs::print_runs;
 use sheet_header::{SheetHeader, bad_header, header_of_unchecked};
 use sheet_lines::{print_first_unchecked, print_refusal_unchecked};
@@ -46,7 +47,7 @@ fn print_cells(out: &mut [u8], h: SheetHeader, cells: &[u8]) -> usize
     }
     let s = superblock_of(h.subx, h.suby, h.cols, h.rows, h.row, h.col, h.plane);
     let pass = pass_of(h.pass);
-    let keys = keys_unchecked(cells, s, pass, 0 < h.plane);
+    let keys = keys_unchecked(cells, PlacedSuperblock { of: s }, pass, 0 < h.plane);
     if let Some(place) = keys.lacking {
         return print_fault(out, Fault::NoLevel(place));
     }

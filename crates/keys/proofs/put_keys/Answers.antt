@@ -11,13 +11,11 @@ pub loop-e-preserved : goal.loop-e-preserved
 loop-e-preserved c =
     let a = c.args in
     let l = c.loop-e in
-    let n = c.limits_of-n.ensures in
-    let m = c.limits_of-m.ensures in
     let r = c.put_pair-r.ensures in
     let words = a.words.now in (
-      rw (r.0, n, l.invariant.0, ← add-zero (2 * l.e)) (more_keys a.t words l.e 0 a.outer.now),
-      rw (r.1, m, l.invariant.1) (more_keys a.t words l.e 1 a.inner.now),
-      rw (r.2, n, m, l.invariant.2) (more_lacks a.t words l.e),
+      rw (r.outer, l.invariant.0, ← add-zero (2 * l.e)) (more_keys a.t.of words l.e 0 a.outer.now),
+      rw (r.inner, l.invariant.1) (more_keys a.t.of words l.e 1 a.inner.now),
+      rw (r.lacking, l.invariant.2) (more_lacks a.t.of words l.e),
     )
 
 pub returns : goal.returns
@@ -25,4 +23,4 @@ returns c =
     let all : c.loop-e.e ≡ c.pair_count-e-end.result = omega arith in
     let i = c.loop-e.invariant in
     let count = c.pair_count-e-end.ensures.0 in
-    (rw (all, count) at i.0, rw (all, count) at i.1, rw (all, count) at i.2)
+    record { outer = rw (all, count) at i.0; inner = rw (all, count) at i.1; lacking = rw (all, count) at i.2 }

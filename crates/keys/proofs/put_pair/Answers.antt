@@ -13,10 +13,13 @@ loop-c-preserved c =
     let p = c.entry_of-p.ensures in
     let q = c.entry_of-q.ensures in
     let a = c.args in
+    let t = a.t.of in
+    let n = c.limits_of-n.result in
+    let m = c.limits_of-m.result in
     let l = c.loop-c in
     let words = a.words.now in
     let cell : (8 * a.e + l.c) % 8 ≡ l.c = omega arith in (
-      rw (l.invariant.0, p.0, ← filled_more (key_by a.n a.log a.tx words) (8 * a.e) l.c a.outer.now, cell),
-      rw (l.invariant.1, q.0, ← filled_more (key_by a.m a.log a.tx words) (8 * a.e) l.c a.inner.now, cell),
-      rw (l.invariant.2, p.1, q.1, ← found_more (λ j. lack_by a.n a.m a.log a.tx words (8 * a.e + j)) l.c, cell),
+      rw (l.invariant.0, p.0, ← filled_more (key_by n t.log t.tx words) (8 * a.e) l.c a.outer.now, cell),
+      rw (l.invariant.1, q.0, ← filled_more (key_by m t.log t.tx words) (8 * a.e) l.c a.inner.now, cell),
+      rw (l.invariant.2, p.1, q.1, ← found_more (λ j. lack_by n m t.log t.tx words (8 * a.e + j)) l.c, cell),
     )

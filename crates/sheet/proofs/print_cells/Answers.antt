@@ -38,7 +38,7 @@ returns-in-Some c =
     rw (cells_bad h cells bad.0, bad.1) c.print_fault.ensures
 
 pub keys_unchecked-keys-requires : goal.keys_unchecked-keys-requires
-keys_unchecked-keys-requires c = rw (c.superblock_of-s.ensures, words_of-length c.args.cells.now) (c.requires.1, c.requires.2)
+keys_unchecked-keys-requires c = rw (c.superblock_of-s.ensures, words_of-length c.args.cells.now) c.requires.2
 
 -- the search for a level that lacks, as the sheet's laws name it
 searched : (h : SheetHeader) (cells : List ℕ) (s : Superblock) (pass : Pass) (found : Option ℕ)

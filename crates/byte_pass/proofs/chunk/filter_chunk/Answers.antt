@@ -32,12 +32,8 @@ pub overflow_mul-first : goal.overflow_mul-first
 overflow_mul-first c = omega (arith, edge_len_small c.args.s c.args.pass)
 
 -- the chunk is in the grid
-pub invariant_of-first : goal.invariant_of-first
-invariant_of-first c =
+pub invariant_of-first-then-chunk_filters : goal.invariant_of-first-then-chunk_filters
+invariant_of-first-then-chunk_filters c =
     let a = c.args in
     let p = c.requires in
-    record {
-      placed = p.0.placed;
-      edge_small = omega (arith, p.1, edge_count_small a.s a.pass);
-      i_small = omega (arith, p.2, edge_len_small a.s a.pass);
-    }
+    record { edge_small = omega (arith, p.1, edge_count_small a.s a.pass); i_small = omega (arith, p.2, edge_len_small a.s a.pass) }

@@ -1,21 +1,16 @@
 use Rattle.std.proofs.Common.{◌≡◌, arith}
 use Rattle.base.specs.Filled.{filled_none}
-use Rattle.keys.specs.PlainKeysLaws.{more_words, some_cells}
+use Rattle.keys.specs.PlainKeysLaws.{more_words}
 use Rattle.keys.proofs.fetch.fetch.Goals as goal
 
 pub loop-e-init : goal.loop-e-init
 loop-e-init g c = filled_none _ _ _
 
-pub fetch_pair-requires : goal.fetch_pair-requires
-fetch_pair-requires g c =
-    let t = c.turned_of-t.ensures.1 in
-    (omega arith, omega arith, omega arith, omega (arith, some_cells c.args.s c.requires.0))
-
 pub loop-e-preserved : goal.loop-e-preserved
 loop-e-preserved g c =
-    rw (c.fetch_pair.ensures, c.base_of.ensures.0, c.loop-e.invariant) (more_words c.turned_of-t.result (g.C.Words.words c.args.cells) c.loop-e.e c.args.words.now)
+    rw (c.fetch_pair.ensures, c.loop-e.invariant) (more_words c.args.t.of (g.C.Words.words c.args.cells) c.loop-e.e c.args.words.now)
 
 pub returns : goal.returns
 returns g c =
     let all : c.loop-e.e ≡ c.pair_count-e-end.result = omega arith in
-    rw (all, c.pair_count-e-end.ensures.0, c.turned_of-t.ensures.0) at c.loop-e.invariant
+    rw (all, c.pair_count-e-end.ensures.0) at c.loop-e.invariant

@@ -10,13 +10,15 @@ loop-c-init g c = filled_none _ _ _
 pub loop-c-preserved : goal.loop-c-preserved
 loop-c-preserved g c =
     let a = c.args in
+    let t = a.t.of in
     let l = c.loop-c in
+    let base = c.base_of-base.result in
     let cells = g.C.Words.words a.cells in
     rw (
       l.invariant,
       c.word_unchecked.ensures,
       c.place_from-at.ensures.0,
       c.count-size.ensures,
-      ← filled_more (word_from a.base a.paired a.along cells) (8 * a.e) l.c a.words.now,
-      word_of_pair a.base a.paired a.along a.e l.c (omega arith) cells,
+      ← filled_more (word_from base t.paired t.along cells) (8 * a.e) l.c a.words.now,
+      word_of_pair base t.paired t.along a.e l.c (omega arith) cells,
     )

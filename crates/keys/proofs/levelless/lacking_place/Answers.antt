@@ -9,7 +9,7 @@ few false = omega arith
 
 pub cell_place-requires : goal.cell_place-requires
 cell_place-requires c =
-    let t = c.args.t in
+    let t = c.args.t.of in
     let place = place_found (lack_at t c.args.words.now) (16 * pairs t.sub) (rw c.in_ok-k.was at (sym c.first_lack.ensures)) in
     let inside = (first_is (lack_at t c.args.words.now) (16 * pairs t.sub) place.0).to in
     let is = place.1 in

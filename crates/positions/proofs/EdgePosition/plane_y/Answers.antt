@@ -7,5 +7,5 @@ pub returns : goal.returns
 unfolding plane_y
 returns c =
     let luma = c.luma_y in
-    let small = shr_small luma.result.0 c.args.self.s.suby in
+    let small = shr_small luma.result.0 c.args.self.s.of.suby in
     (rw (c.in_plane.ensures, luma.ensures.0), omega (arith, small, c.in_plane.ensures, luma.ensures.1))

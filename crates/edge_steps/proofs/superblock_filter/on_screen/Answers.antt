@@ -1,5 +1,5 @@
 use Rattle.edge_steps.specs.SuperblockFilter.{on_screen}
-use Rattle.edge_steps.proofs.superblock_filter.on_screen_unchecked.Goals as goal
+use Rattle.edge_steps.proofs.superblock_filter.on_screen.Goals as goal
 
 pub returns : goal.returns
 unfolding on_screen
