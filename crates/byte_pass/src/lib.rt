@@ -27,6 +27,7 @@ use base::fault::Fault;
 use decided::superblock_of;
 use edge::filter_keys;
 use faults::number_faults;
+use geometry::pass_numbers::PassNumbers;
 use geometry::{Pass, Superblock, cell_count_unchecked};
 use keys::keys_unchecked;
 use pass_edges::pass_of;
@@ -109,32 +110,19 @@ pub fn superblock_loop_filter_bytes(
     samples: &mut [u8],
     g: WindowShape,
     cells: &[u8],
-    sharpness: u8,
-    depth: u8,
-    sub_x: u8,
-    sub_y: u8,
-    mi_cols: usize,
-    mi_rows: usize,
-    row: usize,
-    col: usize,
-    plane: u8,
-    pass: u8,
+    n: PassNumbers,
 ) -> Result<(), Fault>
-    ensures { Answers (superblock_loop_filter_cells Byte g sharpness depth sub_x sub_y mi_cols mi_rows row col plane pass (words_of cells.now) samples.old) (returned_of result) samples.old samples.new }
+    ensures { Answers (superblock_loop_filter_cells Byte g n.sharpness n.bit_depth n.sub_x n.sub_y n.mi_cols n.mi_rows n.mi_row n.mi_col n.plane n.pass (words_of cells.now) samples.old) (returned_of result) samples.old samples.new }
 {
-    number_faults(
-        sharpness,
-        depth == 8,
-        sub_x,
-        sub_y,
-        mi_cols,
-        mi_rows,
-        row,
-        col,
-        plane,
-        pass,
-        cells.len() / 4,
-    )?;
-    let s = superblock_of(sub_x, sub_y, mi_cols, mi_rows, row, col, plane);
-    test_lists_and_filter(samples, g, cells, s, pass_of(pass), 0 < plane, sharpness)
+    number_faults(n, n.bit_depth == 8, cells.len() / 4)?;
+    let s = superblock_of(n);
+    test_lists_and_filter(
+        samples,
+        g,
+        cells,
+        s,
+        pass_of(n.pass),
+        0 < n.plane,
+        n.sharpness,
+    )
 }

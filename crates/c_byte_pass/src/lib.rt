@@ -11,7 +11,9 @@ ghost use Rattle.word_bytes.specs.WordBytes.{words_of};
 
 pub mod unchecked;
 
+use byte_pass::superblock_loop_filter_bytes;
 use c_border::{Refusal, refusal_of};
+use geometry::pass_numbers::PassNumbers;
 use window::WindowShape;
 
 // As springspade_pass over bytes, the words of the cells too.
@@ -41,8 +43,17 @@ pub fn springspade_pass_bytes(
         stride,
         top: y_origin,
     };
-    refusal_of(byte_pass::superblock_loop_filter_bytes(
-        samples, g, cells, sharpness, bit_depth, sub_x, sub_y, mi_cols, mi_rows, mi_row, mi_col,
-        plane, pass,
-    ))
+    let n = PassNumbers {
+        sharpness,
+        bit_depth,
+        sub_x,
+        sub_y,
+        mi_cols,
+        mi_rows,
+        mi_row,
+        mi_col,
+        plane,
+        pass,
+    };
+    refusal_of(superblock_loop_filter_bytes(samples, g, cells, n))
 }

@@ -8,6 +8,7 @@ ghost use Rattle.pass_edges.specs.PassEdges.{pass_of};
 
 use byte_pass::superblock_loop_filter_bytes_unchecked;
 use decided::superblock_of;
+use geometry::pass_numbers::PassNumbers;
 use pass_edges::pass_of;
 use window::WindowShape;
 
@@ -38,7 +39,19 @@ pub fn springspade_pass_bytes_unchecked(
         stride,
         top: y_origin,
     };
-    let s = superblock_of(sub_x, sub_y, mi_cols, mi_rows, mi_row, mi_col, plane);
+    let n = PassNumbers {
+        sharpness,
+        bit_depth: 8,
+        sub_x,
+        sub_y,
+        mi_cols,
+        mi_rows,
+        mi_row,
+        mi_col,
+        plane,
+        pass,
+    };
+    let s = superblock_of(n);
     superblock_loop_filter_bytes_unchecked(
         samples,
         g,

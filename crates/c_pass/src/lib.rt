@@ -11,6 +11,8 @@ ghost use Rattle.c_border.specs.Border.{numbers_of};
 pub mod unchecked;
 
 use c_border::{Refusal, refusal_of};
+use geometry::pass_numbers::PassNumbers;
+use pass::superblock_loop_filter_cells;
 use window::WindowShape;
 
 // Filters the superblock at mi_row, mi_col of a plane in place: vertical edges (pass 0) or horizontal ones (pass 1).
@@ -40,8 +42,17 @@ pub fn springspade_pass(
         stride,
         top: y_origin,
     };
-    refusal_of(pass::superblock_loop_filter_cells(
-        samples, g, cells, sharpness, bit_depth, sub_x, sub_y, mi_cols, mi_rows, mi_row, mi_col,
-        plane, pass,
-    ))
+    let n = PassNumbers {
+        sharpness,
+        bit_depth,
+        sub_x,
+        sub_y,
+        mi_cols,
+        mi_rows,
+        mi_row,
+        mi_col,
+        plane,
+        pass,
+    };
+    refusal_of(superblock_loop_filter_cells(samples, g, cells, n))
 }

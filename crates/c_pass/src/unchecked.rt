@@ -7,6 +7,7 @@ ghost use Rattle.pass.specs.Pass.{superblock_loop_filter, superblock_loop_filter
 ghost use Rattle.pass_edges.specs.PassEdges.{pass_of};
 
 use decided::superblock_of;
+use geometry::pass_numbers::PassNumbers;
 use pass::superblock_loop_filter_unchecked;
 use pass_edges::pass_of;
 use window::WindowShape;
@@ -39,7 +40,19 @@ pub fn springspade_pass_unchecked(
         stride,
         top: y_origin,
     };
-    let s = superblock_of(sub_x, sub_y, mi_cols, mi_rows, mi_row, mi_col, plane);
+    let n = PassNumbers {
+        sharpness,
+        bit_depth,
+        sub_x,
+        sub_y,
+        mi_cols,
+        mi_rows,
+        mi_row,
+        mi_col,
+        plane,
+        pass,
+    };
+    let s = superblock_of(n);
     superblock_loop_filter_unchecked(
         samples,
         g,

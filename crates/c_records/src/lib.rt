@@ -10,8 +10,9 @@ pub mod records;
 pub mod rows;
 
 use c_border::{Refusal, refusal_of};
-use plane_window::numbers::PassNumbers;
+use geometry::pass_numbers::PassNumbers;
 use plane_window::pass_plane;
+use window::WindowShape;
 
 // As springspade_pass, with the numbers behind the window in a record.
 pub fn springspade_pass_window(
@@ -25,5 +26,11 @@ pub fn springspade_pass_window(
 ) -> Refusal
     ensures { Answers (pass_over (shape width height stride y_origin) numbers cells.now samples.old) (numbers_of result) samples.old samples.new }
 {
-    refusal_of(pass_plane(samples, cells, width, height, stride, y_origin, numbers))
+    let g = WindowShape {
+        width,
+        height,
+        stride,
+        top: y_origin,
+    };
+    refusal_of(pass_plane(samples, cells, g, numbers))
 }

@@ -6,8 +6,9 @@ ghost use Rattle.record_pass.specs.RecordPass.{pass_records};
 
 use c_border::{Refusal, refusal_of};
 use cell_records::CellRecord;
-use plane_window::numbers::PassNumbers;
+use geometry::pass_numbers::PassNumbers;
 use record_pass::pass_records;
+use window::WindowShape;
 
 // As springspade_pass, over cell records in place of words, with the numbers behind the window in a record.
 pub fn springspade_pass_records(
@@ -21,5 +22,11 @@ pub fn springspade_pass_records(
 ) -> Refusal
     ensures { Answers (pass_records (shape width height stride y_origin) numbers records.now samples.old) (numbers_of result) samples.old samples.new }
 {
-    refusal_of(pass_records(samples, records, width, height, stride, y_origin, numbers))
+    let g = WindowShape {
+        width,
+        height,
+        stride,
+        top: y_origin,
+    };
+    refusal_of(pass_records(samples, records, g, numbers))
 }

@@ -8,29 +8,22 @@ ghost use Rattle.decided.specs.Runs.{joins, longer};
 ghost use Rattle.decided.specs.RunsLaws.{Small};
 ghost use Rattle.pass_edges.specs.PassEdges.{edge_count};
 
+use geometry::pass_numbers::PassNumbers;
 use geometry::{Pass, Superblock};
 use pass_edges::along;
 
 // The superblock of a plane, of numbers that are tested: plane 0 counts as not subsampled.
-pub fn superblock_of(
-    sub_x: u8,
-    sub_y: u8,
-    mi_cols: usize,
-    mi_rows: usize,
-    row: usize,
-    col: usize,
-    plane: u8,
-) -> Superblock
-    ensures { result ≡ superblock_of sub_x sub_y mi_cols mi_rows row col plane }
+pub fn superblock_of(n: PassNumbers) -> Superblock
+    ensures { result ≡ superblock_of n.sub_x n.sub_y n.mi_cols n.mi_rows n.mi_row n.mi_col n.plane }
 {
-    let chroma = 0 < plane;
+    let chroma = 0 < n.plane;
     Superblock {
-        subx: chroma & (sub_x == 1),
-        suby: chroma & (sub_y == 1),
-        cols: mi_cols,
-        rows: mi_rows,
-        row,
-        col,
+        subx: chroma & (n.sub_x == 1),
+        suby: chroma & (n.sub_y == 1),
+        cols: n.mi_cols,
+        rows: n.mi_rows,
+        row: n.mi_row,
+        col: n.mi_col,
     }
 }
 

@@ -3,6 +3,7 @@ use crate::case_s::{MI_COLS, MI_ROWS, made_row};
 use crate::step::print_samples;
 use anyhow::Result;
 use base::fault::Fault;
+use geometry::pass_numbers::PassNumbers;
 use pass::superblock_loop_filter_cells;
 use std::array;
 use window::WindowShape;
@@ -39,9 +40,19 @@ fn filter(samples: &mut [u16], cells: &[u32]) -> Result<(), Fault> {
         stride: 16,
         top: 0,
     };
-    superblock_loop_filter_cells(
-        samples, window, cells, 0, 8, 0, 0, MI_COLS, MI_ROWS, 0, 0, 0, 0,
-    )
+    let numbers = PassNumbers {
+        sharpness: 0,
+        bit_depth: 8,
+        sub_x: 0,
+        sub_y: 0,
+        mi_cols: MI_COLS,
+        mi_rows: MI_ROWS,
+        mi_row: 0,
+        mi_col: 0,
+        plane: 0,
+        pass: 0,
+    };
+    superblock_loop_filter_cells(samples, window, cells, numbers)
 }
 
 // The place of the refusal is 64 times the edge and the position along it: edge 2 lies between the blocks.

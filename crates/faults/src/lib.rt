@@ -12,6 +12,7 @@ ghost use Rattle.faults.specs.FaultsLaws.{lent_refused};
 
 use bad_words::first_bad_word_unchecked;
 use base::fault::Fault;
+use geometry::pass_numbers::PassNumbers;
 use geometry::{Superblock, bad_frame_size, bad_start, bad_subsampling, cell_count_unchecked};
 use window::{WindowShape, bad_window, first_bad_sample_unchecked};
 
@@ -24,43 +25,31 @@ fn sample_bound(depth: u8) -> u16
 }
 
 // Refusals 1 to 10, of a row with so many cells lent. Whether the depth is known is the matter of the samples' width.
-pub fn number_faults(
-    sharpness: u8,
-    known: bool,
-    sub_x: u8,
-    sub_y: u8,
-    mi_cols: usize,
-    mi_rows: usize,
-    row: usize,
-    col: usize,
-    plane: u8,
-    pass: u8,
-    lent: usize,
-) -> Result<(), Fault>
-    ensures { (after : Outcome (List ℕ)) → numbers_refused sharpness known sub_x sub_y mi_cols mi_rows row col plane pass lent after ≡ afterwards result after }
+pub fn number_faults(n: PassNumbers, known: bool, lent: usize) -> Result<(), Fault>
+    ensures { (after : Outcome (List ℕ)) → numbers_refused n.sharpness known n.sub_x n.sub_y n.mi_cols n.mi_rows n.mi_row n.mi_col n.plane n.pass lent after ≡ afterwards result after }
 {
-    if 7 < sharpness {
+    if 7 < n.sharpness {
         return Err(Fault::Sharpness);
     }
     if !known {
         return Err(Fault::Depth);
     }
-    if bad_subsampling(sub_x, sub_y) {
+    if bad_subsampling(n.sub_x, n.sub_y) {
         return Err(Fault::Subsampling);
     }
-    if bad_frame_size(mi_cols, mi_rows) {
+    if bad_frame_size(n.mi_cols, n.mi_rows) {
         return Err(Fault::FrameSize);
     }
-    if bad_start(row, mi_rows) {
+    if bad_start(n.mi_row, n.mi_rows) {
         return Err(Fault::Row);
     }
-    if lent < cell_count_unchecked(row, mi_cols, mi_rows) {
+    if lent < cell_count_unchecked(n.mi_row, n.mi_cols, n.mi_rows) {
         return Err(Fault::Short);
     }
-    if (2 < plane) | (1 < pass) {
+    if (2 < n.plane) | (1 < n.pass) {
         return Err(Fault::PlaneOrPass);
     }
-    if bad_start(col, mi_cols) {
+    if bad_start(n.mi_col, n.mi_cols) {
         return Err(Fault::Column);
     }
     Ok(())

@@ -5,6 +5,8 @@ ghost use Rattle.std.specs.Prelude.{◌≡◌, ◌≤◌};
 ghost use Rattle.geometry.specs.Frame.{bad_subsampling, bad_frame_size, bad_start, cells_from};
 ghost use Rattle.geometry.specs.Coordinates.{shr};
 
+pub mod pass_numbers;
+
 // Pass 0 filters across vertical edges, pass 1 across horizontal ones.
 #[derive(Clone, Copy)]
 pub enum Pass {

@@ -23,6 +23,7 @@ use base::fault::Fault;
 use decided::superblock_of;
 use edge::filter_keys;
 use faults::{list_faults_unchecked, number_faults};
+use geometry::pass_numbers::PassNumbers;
 use geometry::{Pass, Superblock};
 use keys::keys_unchecked;
 use pass_edges::pass_of;
@@ -92,41 +93,20 @@ pub fn superblock_loop_filter_cells(
     samples: &mut [u16],
     g: WindowShape,
     cells: &[u32],
-    sharpness: u8,
-    depth: u8,
-    sub_x: u8,
-    sub_y: u8,
-    mi_cols: usize,
-    mi_rows: usize,
-    row: usize,
-    col: usize,
-    plane: u8,
-    pass: u8,
+    n: PassNumbers,
 ) -> Result<(), Fault>
-    ensures { Answers (superblock_loop_filter_cells U16 g sharpness depth sub_x sub_y mi_cols mi_rows row col plane pass cells.now samples.old) (returned_of result) samples.old samples.new }
+    ensures { Answers (superblock_loop_filter_cells U16 g n.sharpness n.bit_depth n.sub_x n.sub_y n.mi_cols n.mi_rows n.mi_row n.mi_col n.plane n.pass cells.now samples.old) (returned_of result) samples.old samples.new }
 {
-    number_faults(
-        sharpness,
-        is_supported(depth),
-        sub_x,
-        sub_y,
-        mi_cols,
-        mi_rows,
-        row,
-        col,
-        plane,
-        pass,
-        cells.len(),
-    )?;
-    let s = superblock_of(sub_x, sub_y, mi_cols, mi_rows, row, col, plane);
+    number_faults(n, is_supported(n.bit_depth), cells.len())?;
+    let s = superblock_of(n);
     test_lists_and_filter(
         samples,
         g,
         cells,
         s,
-        pass_of(pass),
-        0 < plane,
-        sharpness,
-        depth,
+        pass_of(n.pass),
+        0 < n.plane,
+        n.sharpness,
+        n.bit_depth,
     )
 }

@@ -3,9 +3,9 @@
 use Rattle.std.specs.Prelude.{List, ℕ}
 use Rattle.base.specs.Outcome.{Outcome}
 use Rattle.base.specs.Width.{U16}
+use Rattle.geometry.specs.declared.pass_numbers.PassNumbers.{PassNumbers}
 use Rattle.pass.specs.Pass.{superblock_loop_filter_cells}
 use Rattle.window.specs.declared.WindowShape.{WindowShape}
-use Rattle.plane_window.specs.declared.numbers.PassNumbers.{PassNumbers}
 
 abbrev pub shape : (width height stride y_origin : ℕ) → WindowShape
 shape width height stride y_origin = record { width = width; height = height; stride = stride; top = y_origin }

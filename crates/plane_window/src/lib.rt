@@ -4,75 +4,47 @@
 ghost use Rattle.std.specs.Prelude.{◌≡◌};
 ghost use Rattle.base.specs.Outcome.{Answers};
 ghost use Rattle.base.specs.Fault.{returned_of};
-ghost use Rattle.plane_window.specs.PlaneWindow.{shape, pass_over};
-
-pub mod numbers;
+ghost use Rattle.plane_window.specs.PlaneWindow.{pass_over};
 
 use base::fault::Fault;
-use numbers::{PassNumbers, pass_numbers};
+use geometry::pass_numbers::PassNumbers;
+use pass::superblock_loop_filter_cells;
+use window::WindowShape;
 
-// Height rows of width samples, stride apart, the first at the plane's row y_origin.
+// The samples that are lent, and where the window lies in them and in its plane.
 #[derive(Drop)]
 pub struct PlaneWindow<'a> {
     pub samples: &'a mut [u16],
-    pub width: usize,
-    pub height: usize,
-    pub stride: usize,
-    pub y_origin: usize,
+    pub shape: WindowShape,
 }
 
 // The record is made.
-pub fn window_of<'a>(
-    samples: &'a mut [u16],
-    width: usize,
-    height: usize,
-    stride: usize,
-    y_origin: usize,
-) -> PlaneWindow<'a>
-    ensures { (result.samples ≡ samples.entry) × (result.width ≡ width) × (result.height ≡ height) × (result.stride ≡ stride) × (result.y_origin ≡ y_origin) }
+pub fn window_of<'a>(samples: &'a mut [u16], g: WindowShape) -> PlaneWindow<'a>
+    ensures { (result.samples ≡ samples.entry) × (result.shape ≡ g) }
 {
-    PlaneWindow {
-        samples,
-        width,
-        height,
-        stride,
-        y_origin,
-    }
+    PlaneWindow { samples, shape: g }
 }
 
-// The record is taken apart: slice and numbers go to the pass.
+// The record is taken apart: samples and shape go to the pass.
 pub fn pass_window<'a, 'b>(
     w: PlaneWindow<'a>,
     cells: &'b [u32],
-    p: PassNumbers,
+    n: PassNumbers,
 ) -> Result<(), Fault>
-    ensures { Answers (pass_over (shape w.entry.width w.entry.height w.entry.stride w.entry.y_origin) p cells.now w.entry.samples.now) (returned_of result) w.entry.samples.now w.exit.0.now }
+    ensures { Answers (pass_over w.entry.shape n cells.now w.entry.samples.now) (returned_of result) w.entry.samples.now w.exit.0.now }
 {
-    let PlaneWindow {
-        samples,
-        width,
-        height,
-        stride,
-        y_origin,
-    } = w;
-    pass_numbers(samples, cells, width, height, stride, y_origin, p)
+    let PlaneWindow { samples, shape } = w;
+    superblock_loop_filter_cells(samples, shape, cells, n)
 }
 
-// The same with plain parameters, through the record.
+// The same with samples and shape apart, through the record.
 pub fn pass_plane(
     samples: &mut [u16],
     cells: &[u32],
-    width: usize,
-    height: usize,
-    stride: usize,
-    y_origin: usize,
-    p: PassNumbers,
+    g: WindowShape,
+    n: PassNumbers,
 ) -> Result<(), Fault>
-    ensures { Answers (pass_over (shape width height stride y_origin) p cells.now samples.old) (returned_of result) samples.old samples.new }
+    ensures { Answers (pass_over g n cells.now samples.old) (returned_of result) samples.old samples.new }
 {
-    pass_window(
-        window_of(samples, width, height, stride, y_origin),
-        cells,
-        p,
-    )
+    pass_window(window_of(samples, g), cells, n)
 }

@@ -6,7 +6,7 @@ use Rattle.window.specs.declared.WindowShape.{WindowShape}
 use Rattle.cell_records.specs.CellRecord.{word_of, words_of, none}
 use Rattle.cell_records.specs.declared.CellRecord.{CellRecord}
 use Rattle.plane_window.specs.PlaneWindow.{pass_over}
-use Rattle.plane_window.specs.declared.numbers.PassNumbers.{PassNumbers}
+use Rattle.geometry.specs.declared.pass_numbers.PassNumbers.{PassNumbers}
 
 -- the word of record k
 abbrev pub record_word : List CellRecord → ℕ → ℕ

@@ -11,7 +11,7 @@ use Rattle.cell_records.specs.declared.CellRecord.{CellRecord}
 use Rattle.base.specs.Width.{U16}
 use Rattle.pass.specs.PassFront.{pass_front}
 use Rattle.plane_window.specs.PlaneWindow.{pass_over}
-use Rattle.plane_window.specs.declared.numbers.PassNumbers.{PassNumbers}
+use Rattle.geometry.specs.declared.pass_numbers.PassNumbers.{PassNumbers}
 use Rattle.window.specs.declared.WindowShape.{WindowShape}
 use Rattle.record_pass.specs.RecordPass.{record_word, pass_records}
 

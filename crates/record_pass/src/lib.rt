@@ -6,12 +6,14 @@ ghost use Rattle.base.specs.Filled.{filled};
 ghost use Rattle.base.specs.Outcome.{Answers};
 ghost use Rattle.cell_records.specs.CellRecord.{word_of};
 ghost use Rattle.base.specs.Fault.{returned_of};
-ghost use Rattle.plane_window.specs.PlaneWindow.{shape, pass_over};
+ghost use Rattle.plane_window.specs.PlaneWindow.{pass_over};
 ghost use Rattle.record_pass.specs.RecordPass.{record_word, pass_records};
 
 use base::fault::Fault;
 use cell_records::{CellRecord, word_of};
-use plane_window::numbers::{PassNumbers, pass_numbers};
+use geometry::pass_numbers::PassNumbers;
+use pass::superblock_loop_filter_cells;
+use window::WindowShape;
 
 // One record is stored as its word; nothing is stored past the end.
 fn store_word(words: &mut [u32], i: usize, c: CellRecord)
@@ -36,34 +38,27 @@ fn pass_words(
     samples: &mut [u16],
     words: &[u32],
     lent: usize,
-    width: usize,
-    height: usize,
-    stride: usize,
-    y_origin: usize,
-    p: PassNumbers,
+    g: WindowShape,
+    n: PassNumbers,
 ) -> Result<(), Fault>
-    ensures { Answers (pass_over (shape width height stride y_origin) p (take lent words.now) samples.old) (returned_of result) samples.old samples.new }
+    ensures { Answers (pass_over g n (take lent words.now) samples.old) (returned_of result) samples.old samples.new }
 {
     if words.len() < lent {
-        return pass_numbers(samples, words, width, height, stride, y_origin, p);
+        return superblock_loop_filter_cells(samples, g, words, n);
     }
-    pass_numbers(samples, &words[..lent], width, height, stride, y_origin, p)
+    superblock_loop_filter_cells(samples, g, &words[..lent], n)
 }
 
 // The pass over records. The words are a local, so that no lent memory but the samples changes; a row has at most 65,536 cells.
 pub fn pass_records(
     samples: &mut [u16],
     records: &[CellRecord],
-    width: usize,
-    height: usize,
-    stride: usize,
-    y_origin: usize,
-    p: PassNumbers,
+    g: WindowShape,
+    n: PassNumbers,
 ) -> Result<(), Fault>
-    ensures { Answers (pass_records (shape width height stride y_origin) p records.now samples.old) (returned_of result) samples.old samples.new }
+    ensures { Answers (pass_records g n records.now samples.old) (returned_of result) samples.old samples.new }
 {
-    let n = records.len();
     let mut words = [0u32; 65536];
     fill(records, &mut words);
-    pass_words(samples, &words, n, width, height, stride, y_origin, p)
+    pass_words(samples, &words, records.len(), g, n)
 }

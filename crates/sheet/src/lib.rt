@@ -10,6 +10,7 @@ ghost use Rattle.sheet_header.specs.SheetHeaderLaws.{Header};
 ghost use Rattle.sheet_header.specs.SheetHeader.{header_of};
 ghost use Rattle.sheet.specs.Sheet.{sheet_setting, cells_of, cells_runs, printed, run_sheet};
 ghost use Rattle.sheet.specs.SheetAnswers.{answer_of, text_of};
+ghost use Rattle.sheet.specs.SheetLaws.{numbers_of};
 ghost use Rattle.sheet_lines.specs.SheetLines.{refusal_line};
 ghost use Rattle.word_bytes.specs.WordBytes.{words_of};
 
@@ -21,6 +22,7 @@ use base::fault::Fault;
 use decided::superblock_of;
 use faults::number_faults;
 use geometry::cell_count_unchecked;
+use geometry::pass_numbers::PassNumbers;
 use keys::keys_unchecked;
 use pass_edges::pass_of;
 use positions::PlacedSuperblock;
@@ -36,6 +38,24 @@ fn print_fault(out: &mut [u8], fault: Fault) -> usize
     print_refusal_unchecked(out, fault.number() as usize, fault.place())
 }
 
+// The header's numbers.
+fn numbers_of(h: SheetHeader) -> PassNumbers
+    ensures { result ≡ numbers_of h }
+{
+    PassNumbers {
+        sharpness: h.sharpness,
+        bit_depth: h.depth,
+        sub_x: h.subx,
+        sub_y: h.suby,
+        mi_cols: h.cols,
+        mi_rows: h.rows,
+        mi_row: h.row,
+        mi_col: h.col,
+        plane: h.plane,
+        pass: h.pass,
+    }
+}
+
 // 11 and 14 are tested, and then the runs are printed.
 fn print_cells(out: &mut [u8], h: SheetHeader, cells: &[u8]) -> usize
     requires { Header h × Placed (sheet_setting h []).superblock × (cells_from h.row h.cols h.rows ≤ length cells.now / 4) × (h.cols ≤ 1024) }
@@ -45,7 +65,7 @@ fn print_cells(out: &mut [u8], h: SheetHeader, cells: &[u8]) -> usize
     if let Some(k) = first_bad_word_unchecked(cells, count) {
         return print_fault(out, Fault::Cell(k));
     }
-    let s = superblock_of(h.subx, h.suby, h.cols, h.rows, h.row, h.col, h.plane);
+    let s = superblock_of(numbers_of(h));
     let pass = pass_of(h.pass);
     let keys = keys_unchecked(cells, PlacedSuperblock { of: s }, pass, 0 < h.plane);
     if let Some(place) = keys.lacking {
@@ -74,19 +94,8 @@ fn print_sheet(out: &mut [u8], sheet: &[u8]) -> usize
     if bad_header(h) {
         return print_fault(out, Fault::Header);
     }
-    let tested = number_faults(
-        h.sharpness,
-        is_supported(h.depth),
-        h.subx,
-        h.suby,
-        h.cols,
-        h.rows,
-        h.row,
-        h.col,
-        h.plane,
-        h.pass,
-        (sheet.len() - 8) / 4,
-    );
+    let known = is_supported(h.depth);
+    let tested = number_faults(numbers_of(h), known, (sheet.len() - 8) / 4);
     match tested {
         Ok(()) => print_words(out, sheet, h),
         Err(fault) => print_fault(out, fault),

@@ -8,7 +8,7 @@ ghost use Rattle.row.specs.Row.{mode_info};
 
 use c_border::Refusal;
 use cell_records::CellRecord;
-use plane_window::numbers::PassNumbers;
+use geometry::pass_numbers::PassNumbers;
 use record_row::RowNumbers;
 
 // As springspade_pass, with the numbers behind the window in a record.

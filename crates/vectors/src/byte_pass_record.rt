@@ -11,22 +11,12 @@ const CELL_BYTES: usize = 128;
 const SAMPLES: usize = 640;
 
 fn pass_answer(record: &[u8; 1448], samples: &mut [u8]) -> Result<(), Fault> {
-    let p = numbers_of(record);
     let cells = usize::from(record[7]).min(CELL_BYTES);
     superblock_loop_filter_bytes(
         samples,
         window_of(record),
         &record[40..40 + cells],
-        p.sharpness,
-        p.bit_depth,
-        p.sub_x,
-        p.sub_y,
-        p.mi_cols,
-        p.mi_rows,
-        p.mi_row,
-        p.mi_col,
-        p.plane,
-        p.pass,
+        numbers_of(record),
     )
 }
 

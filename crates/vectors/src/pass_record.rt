@@ -5,7 +5,7 @@ use crate::numbers::{is_answer, size16_at, size32_at, u16_at, u32_at};
 use base::fault::Fault;
 use cell_records::{CellRecord, record_of};
 use pass::superblock_loop_filter_cells;
-use plane_window::numbers::PassNumbers;
+use geometry::pass_numbers::PassNumbers;
 use plane_window::pass_plane;
 use record_replay::pass_front_unchecked;
 use std::array;
@@ -81,22 +81,12 @@ fn is_equal_by<F: FnOnce(&mut [u16]) -> Result<(), Fault>>(record: &[u8; 2728], 
 pub(crate) fn is_equal(record: &[u8; 2728]) -> bool {
     let cells = cells_of(record);
     let lent = &cells[..lent_cells(record)];
-    let p = numbers_of(record);
     is_equal_by(record, |samples| {
         superblock_loop_filter_cells(
             samples,
             window_of(record),
             lent,
-            p.sharpness,
-            p.bit_depth,
-            p.sub_x,
-            p.sub_y,
-            p.mi_cols,
-            p.mi_rows,
-            p.mi_row,
-            p.mi_col,
-            p.plane,
-            p.pass,
+            numbers_of(record),
         )
     })
 }
@@ -104,15 +94,11 @@ pub(crate) fn is_equal(record: &[u8; 2728]) -> bool {
 pub(crate) fn is_equal_in_window(record: &[u8; 2728]) -> bool {
     let cells = cells_of(record);
     let lent = &cells[..lent_cells(record)];
-    let w = window_of(record);
     is_equal_by(record, |samples| {
         pass_plane(
             samples,
             lent,
-            w.width,
-            w.height,
-            w.stride,
-            w.top,
+            window_of(record),
             numbers_of(record),
         )
     })
@@ -130,16 +116,12 @@ fn cell_record(word: u32) -> CellRecord {
 }
 
 pub(crate) fn is_equal_in_records(record: &[u8; 2728]) -> bool {
-    let w = window_of(record);
     is_equal_by(record, |samples| {
         pass_front_unchecked(
             samples,
             cells_of(record).map(cell_record),
             lent_cells(record),
-            w.width,
-            w.height,
-            w.stride,
-            w.top,
+            window_of(record),
             numbers_of(record),
         )
     })

@@ -14,19 +14,19 @@ unfolding superblock_loop_filter_cells
 returns-in_err-number_faults c =
     let a = c.args in
     let fault = c.in_err-number_faults.field-0.0 in
-    let tested : (after : Outcome (List ℕ)) → numbers_refused a.sharpness (supported a.depth) a.sub_x a.sub_y a.mi_cols a.mi_rows a.row a.col a.plane a.pass (length a.cells.now) after ≡ refused (number_of fault) (place_of fault) = λ after. rw c.is_supported.ensures at (c.in_err-number_faults.ensures after) in
+    let tested : (after : Outcome (List ℕ)) → numbers_refused a.n.sharpness (supported a.n.bit_depth) a.n.sub_x a.n.sub_y a.n.mi_cols a.n.mi_rows a.n.mi_row a.n.mi_col a.n.plane a.n.pass (length a.cells.now) after ≡ refused (number_of fault) (place_of fault) = λ after. rw c.is_supported.ensures at (c.in_err-number_faults.ensures after) in
     let e = err_from_is_err_and c.from_residual.result c.from_residual.ensures.1 in
     rw (tested _, e.1, e.2) (refl, refl)
 
 pub test_lists_and_filter-requires : goal.test_lists_and_filter-requires
 test_lists_and_filter-requires c =
     let a = c.args in
-    let n = numbers_passed a.sharpness (supported a.depth) a.sub_x a.sub_y a.mi_cols a.mi_rows a.row a.col a.plane a.pass _ _ (rw c.is_supported.ensures at (c.in_ok-number_faults.ensures (accepted []))) in
+    let n = numbers_passed a.n.sharpness (supported a.n.bit_depth) a.n.sub_x a.n.sub_y a.n.mi_cols a.n.mi_rows a.n.mi_row a.n.mi_col a.n.plane a.n.pass _ _ (rw c.is_supported.ensures at (c.in_ok-number_faults.ensures (accepted []))) in
     rw c.superblock_of-s.ensures (n.0.placed_at _ _, n.0.cells_lent_lem, n.0.sharpness_fits, n.0.depth_known)
 
 pub returns : goal.returns
 unfolding superblock_loop_filter_cells
 returns c =
     let a = c.args in
-    let tested : (after : Outcome (List ℕ)) → numbers_refused a.sharpness (supported a.depth) a.sub_x a.sub_y a.mi_cols a.mi_rows a.row a.col a.plane a.pass (length a.cells.now) after ≡ after = λ after. rw c.is_supported.ensures at (c.in_ok-number_faults.ensures after) in
+    let tested : (after : Outcome (List ℕ)) → numbers_refused a.n.sharpness (supported a.n.bit_depth) a.n.sub_x a.n.sub_y a.n.mi_cols a.n.mi_rows a.n.mi_row a.n.mi_col a.n.plane a.n.pass (length a.cells.now) after ≡ after = λ after. rw c.is_supported.ensures at (c.in_ok-number_faults.ensures after) in
     answers_on _ _ _ _ _ (tested _) (rw (c.pass_of.ensures, c.superblock_of-s.ensures) at c.test_lists_and_filter.ensures)

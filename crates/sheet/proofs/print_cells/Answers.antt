@@ -38,7 +38,7 @@ returns-in-Some c =
     rw (cells_bad h cells bad.0, bad.1) c.print_fault.ensures
 
 pub keys_unchecked-keys-requires : goal.keys_unchecked-keys-requires
-keys_unchecked-keys-requires c = rw (c.superblock_of-s.ensures, words_of-length c.args.cells.now) c.requires.2
+keys_unchecked-keys-requires c = rw (c.superblock_of-s.ensures, c.numbers_of.ensures, words_of-length c.args.cells.now) c.requires.2
 
 -- the search for a level that lacks, as the sheet's laws name it
 searched : (h : SheetHeader) (cells : List ℕ) (s : Superblock) (pass : Pass) (found : Option ℕ)
@@ -50,7 +50,7 @@ pub print_fault-requires-in-Some-lacking : goal.print_fault-requires-in-Some-lac
 print_fault-requires-in-Some-lacking c =
     let h = c.args.h in
     let cells = words_of c.args.cells.now in
-    let lacks = place_found (levelless_at h cells) (grid_places h) (sym (searched h cells _ _ _ c.superblock_of-s.ensures c.pass_of-pass.ensures c.keys_unchecked-keys.ensures.2) ∙ c.in-Some-lacking.is) in
+    let lacks = place_found (levelless_at h cells) (grid_places h) (sym (searched h cells _ _ _ (rw c.numbers_of.ensures at c.superblock_of-s.ensures) c.pass_of-pass.ensures c.keys_unchecked-keys.ensures.2) ∙ c.in-Some-lacking.is) in
     let to = (first_is (levelless_at h cells) (grid_places h) lacks.0).to in
     let is = lacks.1 in
     omega (arith, edge_count_small (sheet_setting h []).superblock (pass_of h.pass))
@@ -60,7 +60,7 @@ returns-in-Some-lacking c =
     let h = c.args.h in
     let cells = words_of c.args.cells.now in
     let good = no_place (bad_cell cells) (cell_count h) (rw c.cell_count_unchecked-count.ensures at (sym c.first_bad_word_unchecked.ensures ∙ c.in_default.is)) in
-    let lacks = place_found (levelless_at h cells) (grid_places h) (sym (searched h cells _ _ _ c.superblock_of-s.ensures c.pass_of-pass.ensures c.keys_unchecked-keys.ensures.2) ∙ c.in-Some-lacking.is) in
+    let lacks = place_found (levelless_at h cells) (grid_places h) (sym (searched h cells _ _ _ (rw c.numbers_of.ensures at c.superblock_of-s.ensures) c.pass_of-pass.ensures c.keys_unchecked-keys.ensures.2) ∙ c.in-Some-lacking.is) in
     rw (cells_without h cells good lacks.0, lacks.1) c.print_fault-in-Some-lacking.ensures
 
 pub returns : goal.returns
@@ -69,6 +69,6 @@ returns c =
     let cells = words_of c.args.cells.now in
     let told = c.keys_unchecked-keys.ensures in
     let good = no_place (bad_cell cells) (cell_count h) (rw c.cell_count_unchecked-count.ensures at (sym c.first_bad_word_unchecked.ensures ∙ c.in_default.is)) in
-    let present = no_place (levelless_at h cells) (grid_places h) (sym (searched h cells _ _ _ c.superblock_of-s.ensures c.pass_of-pass.ensures told.2) ∙ c.in_default-lacking.is) in
-    let lines = rw (key_runs_lem _ _ _ _ _ _ told.0 told.1, c.superblock_of-s.ensures, c.pass_of-pass.ensures) at c.print_runs.ensures in
+    let present = no_place (levelless_at h cells) (grid_places h) (sym (searched h cells _ _ _ (rw c.numbers_of.ensures at c.superblock_of-s.ensures) c.pass_of-pass.ensures told.2) ∙ c.in_default-lacking.is) in
+    let lines = rw (key_runs_lem _ _ _ _ _ _ told.0 told.1, c.superblock_of-s.ensures, c.numbers_of.ensures, c.pass_of-pass.ensures) at c.print_runs.ensures in
     rw (cells_good h cells good present) (put_then _ _ _ _ c.print_first_unchecked-at.ensures.0 lines)

@@ -38,7 +38,7 @@ pub print_words-requires : goal.print_words-requires
 print_words-requires c =
     let h = c.header_of_unchecked-h in
     let n = numbers_passed h.result.sharpness (supported h.result.depth) h.result.subx h.result.suby h.result.cols h.result.rows h.result.row h.result.col h.result.plane h.result.pass _ (accepted [])
-    ((rw c.is_supported.ensures at (c.number_faults-tested.ensures (accepted []))) ∙ ap (λ r. afterwards r (accepted [])) c.in-Ok.is) in
+    ((rw (c.is_supported-known.ensures, c.numbers_of.ensures) at (c.number_faults-tested.ensures (accepted []))) ∙ ap (λ r. afterwards r (accepted [])) c.in-Ok.is) in
     (h.ensures, n.0.placed_at _ _, n.0.cells_lent_lem, header_narrow h.result (sym c.bad_header.ensures ∙ c.if-bad_header.false), c.if-sheet-lt8.false)
 
 -- so do they of a sheet whose answer is known
@@ -51,19 +51,19 @@ pub returns-in-Ok : goal.returns-in-Ok
 returns-in-Ok c =
     let bytes = c.args.sheet.now in
     let h = c.header_of_unchecked-h in
-    let runs = answered bytes h.result _ _ _ c.in-Ok.is h.ensures c.if-sheet-lt8.false (sym c.bad_header.ensures ∙ c.if-bad_header.false) c.is_supported.ensures c.number_faults-tested.ensures in
+    let runs = answered bytes h.result _ _ _ c.in-Ok.is h.ensures c.if-sheet-lt8.false (sym c.bad_header.ensures ∙ c.if-bad_header.false) c.is_supported-known.ensures (rw c.numbers_of.ensures at c.number_faults-tested.ensures) in
     sheet_text bytes h.result h.ensures (cells_runs h.result (cells_of bytes)) runs _ c.print_words.ensures
 
 pub print_fault-requires-in-Err : goal.print_fault-requires-in-Err
 print_fault-requires-in-Err c =
     let bytes = c.args.sheet.now in
     let h = c.header_of_unchecked-h in
-    let runs = answered bytes h.result _ _ _ c.in-Err.is h.ensures c.if-sheet-lt8.false (sym c.bad_header.ensures ∙ c.if-bad_header.false) c.is_supported.ensures c.number_faults-tested.ensures in
+    let runs = answered bytes h.result _ _ _ c.in-Err.is h.ensures c.if-sheet-lt8.false (sym c.bad_header.ensures ∙ c.if-bad_header.false) c.is_supported-known.ensures (rw c.numbers_of.ensures at c.number_faults-tested.ensures) in
     (subst Tame runs (sheet_tame bytes)).1
 
 pub returns-in-Err : goal.returns-in-Err
 returns-in-Err c =
     let bytes = c.args.sheet.now in
     let h = c.header_of_unchecked-h in
-    let runs = answered bytes h.result _ _ _ c.in-Err.is h.ensures c.if-sheet-lt8.false (sym c.bad_header.ensures ∙ c.if-bad_header.false) c.is_supported.ensures c.number_faults-tested.ensures in
+    let runs = answered bytes h.result _ _ _ c.in-Err.is h.ensures c.if-sheet-lt8.false (sym c.bad_header.ensures ∙ c.if-bad_header.false) c.is_supported-known.ensures (rw c.numbers_of.ensures at c.number_faults-tested.ensures) in
     sheet_text bytes h.result h.ensures _ runs _ c.print_fault-in-Err.ensures
