@@ -2,10 +2,16 @@
 -- Assumes nothing.
 use Rattle.std.specs.Prelude.{◌≡◌, refl, Bool, true, false, ℕ, zero, suc, ◌+◌, ◌*◌, ◌/◌, ◌%◌, ◌^◌, ◌≤◌, ◌<◌, eqb}
 use Rattle.std.proofs.Common.{ap, ◌∙◌, arith}
+use Rattle.std.specs.Int.{from_bool}
 use Rattle.cells.specs.Cell.{bit, packed, cell_of, Fields}
 use Rattle.cells.specs.declared.LfCell.{LfCell}
 
-bit_small : (b : Bool) → bit b ≤ 1
+-- a flag as a number is one bit
+pub flag_bit : (b : Bool) → from_bool b ≡ bit b
+flag_bit true = refl
+flag_bit false = refl
+
+pub bit_small : (b : Bool) → bit b ≤ 1
 bit_small true = omega arith
 bit_small false = omega arith
 

@@ -1,8 +1,8 @@
 // A cell packed into a word.
 #![tactic(auto)]
 
-ghost use Rattle.std.specs.Prelude.{◌≡◌, ◌≤◌};
-ghost use Rattle.cells.specs.Cell.{bit, packed, cell_of, Fields};
+ghost use Rattle.std.specs.Prelude.{◌≡◌};
+ghost use Rattle.cells.specs.Cell.{packed, cell_of, Fields};
 
 // What the pass reads of a cell.
 #[repr(C)]
@@ -30,6 +30,7 @@ pub struct LfCell {
 
 impl LfCell {
     // Takes any word, also one that no block makes.
+    #[tactic(auto, unfolding(crate::specs::Cell::cell_of))]
     pub fn unpack(word: u32) -> Self
         ensures { result ≡ cell_of word }
     {
@@ -47,14 +48,8 @@ impl LfCell {
     }
 }
 
-// With its bound, which sums of fields need.
-fn bit(b: bool) -> u32
-    ensures { (result ≡ bit b) × (result ≤ 1) }
-{
-    u32::from(b)
-}
-
 // The word of a cell whose fields fit their bits.
+#[tactic(auto, unfolding(crate::specs::Cell::packed), using(crate::specs::CellLaws::flag_bit, crate::specs::CellLaws::bit_small))]
 pub fn pack_unchecked(c: LfCell) -> u32
     requires { Fields c }
     ensures { result ≡ packed c }
@@ -62,6 +57,6 @@ pub fn pack_unchecked(c: LfCell) -> u32
     let width = c.width0 as u32 * 4 + c.width1 as u32;
     let shape = (width * 4 + c.height0 as u32) * 4 + c.height1 as u32;
     let transforms = (shape * 4 + c.tx as u32) * 4 + c.uvtx as u32;
-    let flags = (transforms * 2 + bit(c.skipped)) * 2 + bit(c.present);
+    let flags = (transforms * 2 + u32::from(c.skipped)) * 2 + u32::from(c.present);
     (flags * 64 + c.level as u32) * 4096
 }
