@@ -1,11 +1,10 @@
 // What is decided by the limits of an edge: the key of each of its cells, and whether a level lacks.
 ghost use Rattle.std.specs.Prelude.{◌≡◌, cond, ◌≤◌, ◌<◌};
-ghost use Rattle.cells.specs.Cell.{bit};
 ghost use Rattle.decisions.specs.Decision.{without_level};
 ghost use Rattle.keys.specs.Keys.{key_of};
 ghost use Rattle.keys.specs.PlainKeys.{halvings, own, limits_of, plain};
 
-use crate::turned::{SmallTurned, either};
+use crate::turned::SmallTurned;
 
 // What decides of the cells along an edge.
 #[derive(Clone, Copy)]
@@ -29,24 +28,15 @@ pub(crate) struct Entry {
     pub lacking: bool,
 }
 
-fn bit(b: bool) -> u32
-    ensures { (result ≡ bit b) × (result ≤ 1) }
-{
-    if b { 1 } else { 0 }
-}
-
-// The number where the flag is set, else 0.
-fn pick(b: bool, x: u32) -> u32
-    ensures { (result ≡ cond b x 0) × (result ≤ x) }
-{
-    if b { x } else { 0 }
-}
-
 // How often 2 divides an edge's number, up to 4 times.
+#[tactic(auto, using(cells::specs::CellLaws::flag_bit, cells::specs::CellLaws::bit_small))]
 fn halvings_of(edge: usize) -> u32
     ensures { (result ≡ halvings edge) × (result ≤ 4) }
 {
-    bit(edge % 2 == 0) + bit(edge % 4 == 0) + bit(edge % 8 == 0) + bit(edge % 16 == 0)
+    u32::from(edge % 2 == 0)
+        + u32::from(edge % 4 == 0)
+        + u32::from(edge % 8 == 0)
+        + u32::from(edge % 16 == 0)
 }
 
 // The cell across in which an edge lies, from the superblock's first on.
@@ -57,6 +47,7 @@ fn own_cell(sub: bool, edge: usize) -> usize
 }
 
 // What decides of the cells along an edge of a pass.
+#[tactic(auto, unfolding(crate::specs::PlainKeys::limits_of), using(cells::specs::CellLaws::flag_bit, cells::specs::CellLaws::bit_small))]
 pub(crate) fn limits_of(t: SmallTurned, edge: usize) -> EdgeLimits
     requires { edge < 16 }
     ensures { result ≡ limits_of t.of edge }
@@ -66,9 +57,9 @@ pub(crate) fn limits_of(t: SmallTurned, edge: usize) -> EdgeLimits
     let on = (at < t.count) & !((edge == 0) & (t.start == 0));
     let n = halvings_of(edge);
     EdgeLimits {
-        shown: pick(on, t.shown),
-        coded: either(edge % 2 == 1, 8, t.coded),
-        block: n + bit(t.sub),
+        shown: if on { t.shown } else { 0 },
+        coded: if edge % 2 == 1 { t.coded } else { 8 },
+        block: n + u32::from(t.sub),
         transform: n + 1,
         wide: edge % 8 == 0,
         narrow: t.sub & (at + 1 == t.count),
@@ -76,6 +67,7 @@ pub(crate) fn limits_of(t: SmallTurned, edge: usize) -> EdgeLimits
 }
 
 // What cell c of an edge decides, whose word is w, with log the block's logarithm and tx the transform.
+#[tactic(auto, unfolding(crate::specs::PlainKeys::plain, crate::specs::Keys::key_of), using(cells::specs::CellLaws::flag_bit, cells::specs::CellLaws::bit_small))]
 pub(crate) fn entry_of(w: u32, log: u32, tx: u32, c: u32, n: EdgeLimits) -> Entry
     ensures { (result.key ≡ key_of (plain n log tx c w)) × (result.lacking ≡ without_level (plain n log tx c w)) }
 {
@@ -84,8 +76,12 @@ pub(crate) fn entry_of(w: u32, log: u32, tx: u32, c: u32, n: EdgeLimits) -> Entr
     let present = w / 262144 % 2 == 1;
     let transform = (c < n.coded) & (tx < n.transform) & !skipped;
     let decided = (c < n.shown) & ((log < n.block) | transform);
-    let size = bit(n.wide | (0 < tx)) + bit(!n.narrow & (1 < tx));
-    let key = pick(decided & (0 < level), 64 * size + level);
+    let size = u32::from(n.wide | (0 < tx)) + u32::from(!n.narrow & (1 < tx));
+    let key = if decided & (0 < level) {
+        64 * size + level
+    } else {
+        0
+    };
     Entry {
         key: key as u8,
         lacking: decided & !present,

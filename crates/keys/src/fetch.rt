@@ -14,14 +14,6 @@ fn place_at(base: usize, steps: usize, step: usize) -> usize
     base + steps * step
 }
 
-// A place behind the list is off the screen, where any word is as good as another: so nothing branches.
-fn clamped_to(place: usize, size: usize) -> usize
-    requires { 0 < size }
-    ensures { (result ≡ clamped place size) × (result < size) }
-{
-    if place < size { place } else { 0 }
-}
-
 // The cell along that cell c reads.
 fn rounded_cell(paired: bool, c: usize) -> usize
     ensures { (result ≡ rounded paired c) × (result ≤ c) }
@@ -29,12 +21,14 @@ fn rounded_cell(paired: bool, c: usize) -> usize
     if paired { c - c % 2 } else { c }
 }
 
-// The place of the cell that cell c reads, in a list of so many words.
+// The place of the cell that cell c reads, in a list of so many words. A place behind the list is off the screen, where any word is
+// as good as another: so nothing branches.
 fn place_from(base: usize, paired: bool, along: usize, c: usize, size: usize) -> usize
     requires { (base ≤ 65536) × (along ≤ 8192) × (c < 8) × (0 < size) }
     ensures { (result ≡ clamped (place_from base paired along c) size) × (result < size) }
 {
-    clamped_to(place_at(base, rounded_cell(paired, c), along), size)
+    let place = place_at(base, rounded_cell(paired, c), along);
+    if place < size { place } else { 0 }
 }
 
 // The cell across that edge pair e reads.

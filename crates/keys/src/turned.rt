@@ -33,13 +33,6 @@ pub(crate) struct SmallTurned {
     pub ghost small: { Small of },
 }
 
-// The second of two numbers where the flag is set, else the first.
-pub(crate) fn either(second: bool, a: u32, b: u32) -> u32
-    ensures { result ≡ cond second b a }
-{
-    if second { b } else { a }
-}
-
 // The columns that may have transform edges at inner edges: the last of an odd number of columns has none.
 fn coded_cells(subx: bool, cols: usize, col: usize) -> u32
     requires { (col < cols) × (cols ≤ 8192) }
@@ -58,7 +51,7 @@ pub(crate) fn turned_of(s: PlacedSuperblock, pass: Pass, chroma: bool) -> SmallT
     ensures { result.of ≡ turned_of s.of pass chroma }
 {
     let s = s.of;
-    let tx = either(chroma, 22, 20);
+    let tx = if chroma { 20 } else { 22 };
     let of = match pass {
         Pass::Vertical => Turned {
             sub: s.subx,
@@ -70,7 +63,7 @@ pub(crate) fn turned_of(s: PlacedSuperblock, pass: Pass, chroma: bool) -> SmallT
             from: s.col,
             across: 1,
             along: s.cols,
-            log: either(s.subx, 30, 28),
+            log: if s.subx { 28 } else { 30 },
             tx,
         },
         Pass::Horizontal => Turned {
@@ -83,7 +76,7 @@ pub(crate) fn turned_of(s: PlacedSuperblock, pass: Pass, chroma: bool) -> SmallT
             from: s.col,
             across: s.cols,
             along: 1,
-            log: either(s.suby, 26, 24),
+            log: if s.suby { 24 } else { 26 },
             tx,
         },
     };
