@@ -16,7 +16,7 @@ fn base_size(tx_sz: u8, is_32_edge: bool) -> u8
     if (tx_sz == TX_4X4) & is_32_edge {
         return TX_8X8;
     }
-    if tx_sz < TX_16X16 { tx_sz } else { TX_16X16 }
+    tx_sz.min(TX_16X16)
 }
 
 fn at_last(s: Superblock, pass: Pass, x: Luma, y: Luma) -> bool
@@ -28,6 +28,7 @@ fn at_last(s: Superblock, pass: Pass, x: Luma, y: Luma) -> bool
     }
 }
 
+#[tactic(auto, unfolding(crate::specs::FilterSize::filter_size))]
 pub fn filter_size(s: Superblock, pass: Pass, tx_sz: u8, is_32_edge: bool, x: Luma, y: Luma) -> u8
     ensures { result ≡ filter_size s pass tx_sz is_32_edge x.0 y.0 }
 {

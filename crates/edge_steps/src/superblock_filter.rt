@@ -2,15 +2,16 @@
 ghost use Rattle.std.specs.Prelude.{◌≡◌, ◌^◌, ◌≤◌, ◌<◌};
 ghost use Rattle.edge_steps.specs.SuperblockFilter.{multiple, loop_cell, last_column, is_tx_edge, is32_edge, at_border, on_screen, apply_filter};
 
-use geometry::{Luma, Pass};
+use geometry::{Luma, Pass, shl_unchecked, shr};
 use positions::PlacedSuperblock;
 
 // A cell's column or row, on the subsampling grid.
+#[tactic(auto, unfolding(crate::specs::SuperblockFilter::loop_cell))]
 pub fn loop_cell_unchecked(at: Luma, sub: bool) -> usize
     requires { at.0 < 65792 }
     ensures { result ≡ loop_cell sub at.0 }
 {
-    if sub { 2 * (at.0 / 8 / 2) } else { at.0 / 8 }
+    shl_unchecked(shr(at.0 / 8, sub), sub)
 }
 
 // Multiples of 2 to the power of a transform: by cases, so that nothing is divided.
@@ -38,6 +39,7 @@ fn last_column(s: PlacedSuperblock, pass: Pass, edge: usize, x: Luma) -> bool
     }
 }
 
+#[tactic(auto, unfolding(crate::specs::SuperblockFilter::is_tx_edge))]
 pub fn is_tx_edge_unchecked(
     s: PlacedSuperblock,
     pass: Pass,
@@ -51,6 +53,7 @@ pub fn is_tx_edge_unchecked(
     !last_column(s, pass, edge, x) & is_multiple(edge, tx_sz)
 }
 
+#[tactic(auto, unfolding(crate::specs::SuperblockFilter::is32_edge))]
 pub fn is_32_edge(edge: usize) -> bool
     ensures { result ≡ is32_edge edge }
 {
@@ -66,12 +69,14 @@ fn at_border(pass: Pass, x: Luma, y: Luma) -> bool
     }
 }
 
+#[tactic(auto, unfolding(crate::specs::SuperblockFilter::on_screen))]
 pub fn on_screen(s: PlacedSuperblock, pass: Pass, x: Luma, y: Luma) -> bool
     ensures { result ≡ on_screen s.of pass x.0 y.0 }
 {
     !((8 * s.of.cols <= x.0) | (8 * s.of.rows <= y.0) | at_border(pass, x, y))
 }
 
+#[tactic(auto, unfolding(crate::specs::SuperblockFilter::apply_filter))]
 pub fn apply_filter(screen: bool, block: bool, transform: bool, intra: bool, skip: bool) -> bool
     ensures { result ≡ apply_filter screen block transform intra skip }
 {

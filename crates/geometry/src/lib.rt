@@ -1,9 +1,9 @@
 // Where a pass works: the frame, the superblock, the two directions, the two kinds of coordinate.
 #![tactic(auto)]
 
-ghost use Rattle.std.specs.Prelude.{◌≡◌, ◌≤◌};
+ghost use Rattle.std.specs.Prelude.{◌≡◌, ◌*◌, ◌≤◌};
 ghost use Rattle.geometry.specs.Frame.{bad_subsampling, bad_frame_size, bad_start, cells_from};
-ghost use Rattle.geometry.specs.Coordinates.{shr};
+ghost use Rattle.geometry.specs.Coordinates.{shl, shr};
 
 pub mod pass_numbers;
 
@@ -26,6 +26,23 @@ pub struct Superblock {
     pub col: usize,
 }
 
+// Shifts by a subsampling, with the bounds that sums need.
+
+#[tactic(auto, using(crate::specs::CoordinatesLaws::shift_right))]
+pub fn shr(n: usize, sub: bool) -> usize
+    ensures { (result ≡ shr n sub) × (result ≤ n) }
+{
+    n >> u32::from(sub)
+}
+
+#[tactic(auto, using(crate::specs::CoordinatesLaws::shift_left))]
+pub fn shl_unchecked(n: usize, sub: bool) -> usize
+    requires { n ≤ 65536 }
+    ensures { (result ≡ shl n sub) × (result ≤ 2 * n) }
+{
+    n << u32::from(sub)
+}
+
 // A coordinate in luma samples, which the edge tests take.
 #[derive(Clone, Copy)]
 pub struct Luma(pub usize);
@@ -37,13 +54,9 @@ pub struct Plane(pub usize);
 impl Luma {
     // The one way from luma samples to a plane's own.
     pub fn in_plane(self, sub: bool) -> Plane
-        ensures { result.0 ≡ shr self.0 sub }
+        ensures { (result.0 ≡ shr self.0 sub) × (result.0 ≤ self.0) }
     {
-        if sub {
-            Plane(self.0 / 2)
-        } else {
-            Plane(self.0)
-        }
+        Plane(shr(self.0, sub))
     }
 }
 

@@ -5,20 +5,15 @@ ghost use Rattle.std.specs.Prelude.{◌≡◌, ◌≤◌};
 ghost use Rattle.geometry.specs.Coordinates.{shr};
 ghost use Rattle.pass_edges.specs.PassEdges.{along_sub, edge_count, edge_len, pass_of};
 
-use geometry::{Pass, Superblock};
+use geometry::{Pass, Superblock, shr};
 
-fn halved(n: usize, sub: bool) -> usize
-    ensures { (result ≡ shr n sub) × (result ≤ n) }
-{
-    if sub { n / 2 } else { n }
-}
-
+#[tactic(auto, unfolding(crate::specs::PassEdges::edge_count))]
 pub fn edge_count(s: Superblock, pass: Pass) -> usize
     ensures { (result ≡ edge_count s pass) × (result ≤ 16) }
 {
     match pass {
-        Pass::Vertical => halved(16, s.subx),
-        Pass::Horizontal => halved(16, s.suby),
+        Pass::Vertical => shr(16, s.subx),
+        Pass::Horizontal => shr(16, s.suby),
     }
 }
 
@@ -27,11 +22,12 @@ pub fn along(s: Superblock, pass: Pass, n: usize) -> usize
     ensures { (result ≡ shr n (along_sub s pass)) × (result ≤ n) }
 {
     match pass {
-        Pass::Vertical => halved(n, s.suby),
-        Pass::Horizontal => halved(n, s.subx),
+        Pass::Vertical => shr(n, s.suby),
+        Pass::Horizontal => shr(n, s.subx),
     }
 }
 
+#[tactic(auto, unfolding(crate::specs::PassEdges::edge_len))]
 pub fn edge_len(s: Superblock, pass: Pass) -> usize
     ensures { (result ≡ edge_len s pass) × (result ≤ 64) }
 {

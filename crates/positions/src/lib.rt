@@ -1,11 +1,10 @@
 // Where the positions of a pass over a superblock lie.
 #![tactic(auto)]
 
-ghost use Rattle.std.specs.Prelude.{◌≡◌, ◌*◌, ◌≤◌, ◌<◌};
-ghost use Rattle.geometry.specs.Coordinates.{shl};
+ghost use Rattle.std.specs.Prelude.{◌≡◌, ◌<◌};
 ghost use Rattle.positions.specs.Positions.{Placed, luma_x, luma_y, plane_x, plane_y};
 
-use geometry::{Luma, Pass, Plane, Superblock};
+use geometry::{Luma, Pass, Plane, Superblock, shl_unchecked};
 
 // A superblock of a plane that lies in its frame: a value of this type has numbers that are tested.
 #[derive(Clone, Copy)]
@@ -25,44 +24,41 @@ pub struct EdgePosition {
     pub ghost i_small: { i < 64 },
 }
 
-fn doubled(n: usize, sub: bool) -> usize
-    requires { n ≤ 65536 }
-    ensures { (result ≡ shl n sub) × (result ≤ 2 * n) }
-{
-    if sub { 2 * n } else { n }
-}
-
 impl EdgePosition {
     // In luma samples.
 
+    #[tactic(auto, unfolding(crate::specs::Positions::luma_x))]
     pub fn luma_x(self) -> Luma
         ensures { (result.0 ≡ luma_x self.s.of self.pass self.edge self.i) × (result.0 < 65792) }
     {
         let s = self.s.of;
         match self.pass {
-            Pass::Vertical => Luma(s.col * 8 + self.edge * doubled(4, s.subx)),
-            Pass::Horizontal => Luma(s.col * 8 + doubled(self.i, s.subx)),
+            Pass::Vertical => Luma(s.col * 8 + self.edge * shl_unchecked(4, s.subx)),
+            Pass::Horizontal => Luma(s.col * 8 + shl_unchecked(self.i, s.subx)),
         }
     }
 
+    #[tactic(auto, unfolding(crate::specs::Positions::luma_y))]
     pub fn luma_y(self) -> Luma
         ensures { (result.0 ≡ luma_y self.s.of self.pass self.edge self.i) × (result.0 < 65792) }
     {
         let s = self.s.of;
         match self.pass {
-            Pass::Vertical => Luma(s.row * 8 + doubled(self.i, s.suby)),
-            Pass::Horizontal => Luma(s.row * 8 + self.edge * doubled(4, s.suby)),
+            Pass::Vertical => Luma(s.row * 8 + shl_unchecked(self.i, s.suby)),
+            Pass::Horizontal => Luma(s.row * 8 + self.edge * shl_unchecked(4, s.suby)),
         }
     }
 
     // In the plane.
 
+    #[tactic(auto, unfolding(crate::specs::Positions::plane_x))]
     pub fn plane_x(self) -> Plane
         ensures { (result.0 ≡ plane_x self.s.of self.pass self.edge self.i) × (result.0 < 65792) }
     {
         self.luma_x().in_plane(self.s.of.subx)
     }
 
+    #[tactic(auto, unfolding(crate::specs::Positions::plane_y))]
     pub fn plane_y(self) -> Plane
         ensures { (result.0 ≡ plane_y self.s.of self.pass self.edge self.i) × (result.0 < 65792) }
     {

@@ -1,8 +1,0 @@
-use native.Mathlib.Omega.{arith}
-use Rattle.pass_edges.proofs.halved.Goals as goal
-
-pub returns-then-sub : goal.returns-then-sub
-returns-then-sub c = (rw c.if-sub.true, omega arith)
-
-pub returns-else-sub : goal.returns-else-sub
-returns-else-sub c = (rw c.if-sub.false, omega arith)
