@@ -1,9 +1,10 @@
 // The words that the edges of a pass read: cell c of edge pair e at 8 * e + c.
 ghost use Rattle.std.specs.Prelude.{◌≡◌, ◌+◌, ◌*◌, ◌≤◌, ◌<◌, length};
 ghost use Rattle.base.specs.Filled.{filled};
-ghost use Rattle.keys.specs.PlainKeys.{pairs, offset, rounded, clamped, base_of, place_from, word_from, fetched};
+ghost use Rattle.keys.specs.PlainKeys.{pairs, rounded, clamped, base_of, place_from, word_from, fetched};
 
 use crate::turned::{SmallTurned, pair_count};
+use geometry::shl_unchecked;
 use word_bytes::Words;
 
 // The place that is so many steps behind another.
@@ -31,20 +32,12 @@ fn place_from(base: usize, paired: bool, along: usize, c: usize, size: usize) ->
     if place < size { place } else { 0 }
 }
 
-// The cell across that edge pair e reads.
-fn offset_of(sub: bool, e: usize) -> usize
-    requires { e < pairs sub }
-    ensures { (result ≡ offset sub e) × (result < 8) }
-{
-    if sub { 2 * e } else { e }
-}
-
 // The place of the first cell that edge pair e reads.
 fn base_of(t: SmallTurned, e: usize) -> usize
     requires { e < pairs t.of.sub }
     ensures { (result ≡ base_of t.of e) × (result ≤ 65536) }
 {
-    place_at(t.of.from, offset_of(t.of.sub, e), t.of.across)
+    place_at(t.of.from, shl_unchecked(e, t.of.sub), t.of.across)
 }
 
 // Fetches the words of edge pair e. The loop has no branch.

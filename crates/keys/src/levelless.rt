@@ -7,6 +7,7 @@ ghost use Rattle.keys.specs.PlainKeys.{pairs, lack_at, place_by};
 use crate::edge_limits::{entry_of, limits_of};
 use crate::turned::{SmallTurned, pair_count};
 use base::search::first_place;
+use geometry::shr;
 
 // Whether cell k decides without level, 8 cells to an edge. The two edges of a pair read the same words.
 fn lacks(words: &[u32; 64], t: SmallTurned, k: usize) -> bool
@@ -33,11 +34,7 @@ fn cell_place(paired: bool, k: usize) -> usize
     requires { k ≤ 128 }
     ensures { result ≡ cell_place paired k }
 {
-    if paired {
-        64 * (k / 8) + 8 * (k % 8) / 2
-    } else {
-        64 * (k / 8) + 8 * (k % 8)
-    }
+    64 * (k / 8) + shr(8 * (k % 8), paired)
 }
 
 // The positions of a cell have one decision, so the first of the first such cell is the place.
