@@ -17,10 +17,3 @@ loop-e-preserved c =
       rw (r.inner, l.invariant.1) (more_keys a.t.of words l.e 1 a.inner.now),
       rw (r.lacking, l.invariant.2) (more_lacks a.t.of words l.e),
     )
-
-pub returns : goal.returns
-returns c =
-    let all : c.loop-e.e ≡ c.pair_count-e-end.result = omega arith in
-    let i = c.loop-e.invariant in
-    let count = c.pair_count-e-end.ensures.0 in
-    record { outer = rw (all, count) at i.0; inner = rw (all, count) at i.1; lacking = rw (all, count) at i.2 }

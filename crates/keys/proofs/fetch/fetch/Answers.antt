@@ -9,8 +9,3 @@ loop-e-init g c = filled_none _ _ _
 pub loop-e-preserved : goal.loop-e-preserved
 loop-e-preserved g c =
     rw (c.fetch_pair.ensures, c.loop-e.invariant) (more_words c.args.t.of (g.C.Words.words c.args.cells) c.loop-e.e c.args.words.now)
-
-pub returns : goal.returns
-returns g c =
-    let all : c.loop-e.e ≡ c.pair_count-e-end.result = omega arith in
-    rw (all, c.pair_count-e-end.ensures.0) at c.loop-e.invariant
