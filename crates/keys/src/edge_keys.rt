@@ -13,6 +13,7 @@ pub struct Keys {
 
 impl Keys {
     // The key of cell c along an edge. The outer edges have the even numbers.
+    #[tactic(auto, unfolding(crate::specs::Keyed::key_for))]
     pub fn key_at_unchecked(&self, edge: usize, c: usize) -> u8
         requires { (edge < 16) × (c < 8) }
         ensures { (result ≡ key_for self.now.outer self.now.inner edge c) × (result < 192) }

@@ -10,6 +10,7 @@ use base::search::first_place;
 use geometry::shr;
 
 // Whether cell k decides without level, 8 cells to an edge. The two edges of a pair read the same words.
+#[tactic(auto, unfolding(crate::specs::PlainKeys::lack_at))]
 fn lacks(words: &[u32; 64], t: SmallTurned, k: usize) -> bool
     requires { k < 128 }
     ensures { result ≡ lack_at t.of words.now k }

@@ -69,3 +69,6 @@ module _ (bytes : List ℕ) (at count : ℕ) (lent : at + 4 * count ≤ length b
   words_of_stretch =
       let whole : length stretch / 4 ≡ count = omega (arith, stretch-length) in
       rw whole (table_same (λ k. bytes_at stretch (0 + 4 * k) 4) (λ k. bytes_at bytes (at + 4 * k) 4) count stretch_word)
+
+-- both, for tactics
+pub ruleset each_word = (words_of-length, words_of_each)

@@ -4,19 +4,11 @@
 ghost use Rattle.std.specs.Prelude.{◌≡◌, List, ℕ, ◌+◌, ◌*◌, ◌≤◌, ◌<◌, length, get_or};
 ghost use Rattle.word_bytes.specs.WordBytes.{bytes_at, words_of};
 
-fn wide(byte: u8) -> u32
-    ensures { (result ≡ byte) × (result ≤ 255) }
-{
-    byte as u32
-}
-
 pub fn word_at_unchecked(bytes: &[u8], at: usize) -> u32
     requires { at + 4 ≤ length bytes.now }
     ensures { result ≡ bytes_at bytes.now at 4 }
 {
-    let high = wide(bytes[at]) * 256 + wide(bytes[at + 1]);
-    let low = wide(bytes[at + 2]) * 256 + wide(bytes[at + 3]);
-    high * 65536 + low
+    u32::from_be_bytes([bytes[at], bytes[at + 1], bytes[at + 2], bytes[at + 3]])
 }
 
 // A list of words that is lent: as words, or as bytes.
@@ -46,10 +38,12 @@ impl<'a> Words for &'a [u32] {
 impl<'a> Words for &'a [u8] {
     ghost words = { λ s. words_of s.now };
 
+    #[tactic(auto, using(crate::specs::WordBytesLaws::each_word))]
     fn count(self) -> usize {
         self.len() / 4
     }
 
+    #[tactic(auto, using(crate::specs::WordBytesLaws::each_word))]
     fn word_unchecked(self, k: usize) -> u32 {
         word_at_unchecked(self, 4 * k)
     }
