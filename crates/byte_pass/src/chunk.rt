@@ -30,16 +30,8 @@ fn filter_inside(
     requires { Lent g (length samples.old) × (inside_run g start.pass start.x start.y n ≡ true) × (n ≤ 16) × (sharpness ≤ 7) × Keys keys.now }
     ensures { samples.new ≡ in_turn (keyed_run g start.pass start.x start.y sharpness 8 (λ j. get_or keys.now j 0)) n samples.old }
 {
-    let at = start.first_tap_unchecked(g);
-    filter_chunk_unchecked(
-        samples,
-        at,
-        start.tap_step(g),
-        start.along_step(g),
-        n,
-        keys,
-        Sharpness { level: sharpness },
-    );
+    let run = start.taps_unchecked(g, n);
+    filter_chunk_unchecked(samples, run, keys, Sharpness { level: sharpness });
 }
 
 // The positions of a chunk: from the first on those inside the window in lanes, the others one by one.

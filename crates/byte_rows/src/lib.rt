@@ -1,7 +1,7 @@
 // The samples of at most 16 positions between a lent list of bytes and a table of lanes: tap k of position l at the place 16 * k + l.
 #![tactic(auto)]
 
-ghost use Rattle.std.specs.Prelude.{◌≡◌, ◌⊎◌, ◌+◌, ◌-◌, ◌*◌, ◌<◌, length, get_or};
+ghost use Rattle.std.specs.Prelude.{◌≡◌, ◌+◌, ◌-◌, ◌*◌, ◌<◌, length, get_or};
 ghost use Rattle.lane_runs.specs.Spread.{SpacedRun, Spread, Taken};
 ghost use Rattle.byte_rows.specs.Rows.{reach};
 
@@ -11,45 +11,51 @@ mod turn;
 
 use across::{load_across, store_across};
 use down::{load_down, store_down};
+use lane_runs::across::Across;
+use lane_runs::down::Down;
+use tap_places::tap_run::TapRun;
 
-// p7 of the first position is at the place at; taps are step apart and positions along, one of which is 1. All taps are loaded, and
-// stored, where all is set, else p3 to q3.
+// All taps are loaded, and stored, where all is set, else p3 to q3.
 
-pub fn load_lanes_unchecked(
-    t: &mut [u8; 256],
-    samples: &[u8],
-    at: usize,
-    step: usize,
-    along: usize,
-    n: usize,
-    all: bool,
-)
-    requires { SpacedRun at step along n samples.now × (0 < n) × ((step ≡ 1) ⊎ (along ≡ 1)) }
-    ensures { Taken at step along n (8 - reach all) (2 * reach all) samples.now t.new × (length t.new ≡ 256) }
+pub fn load_lanes_unchecked(t: &mut [u8; 256], samples: &[u8], run: TapRun, all: bool)
+    requires { SpacedRun run.at run.step run.along run.n samples.now × (0 < run.n) }
+    ensures { Taken run.at run.step run.along run.n (8 - reach all) (2 * reach all) samples.now t.new × (length t.new ≡ 256) }
 {
-    if step == 1 {
-        load_across(t, samples, at, along, n, all);
+    if run.step == 1 {
+        let lines = Across {
+            at: run.at,
+            along: run.along,
+            n: run.n,
+        };
+        load_across(t, samples, lines, all);
     } else {
-        load_down(t, samples, at, step, n, all);
+        let lines = Down {
+            at: run.at,
+            step: run.step,
+            n: run.n,
+        };
+        load_down(t, samples, lines, all);
     }
 }
 
 // The table is turned where positions are stored row by row.
-pub fn store_lanes_unchecked(
-    samples: &mut [u8],
-    at: usize,
-    step: usize,
-    along: usize,
-    n: usize,
-    t: &mut [u8; 256],
-    all: bool,
-)
-    requires { SpacedRun at step along n samples.old × (0 < n) × ((step ≡ 1) ⊎ (along ≡ 1)) }
-    ensures { Spread at step along n (8 - reach all) (2 * reach all) (λ l k. get_or t.old (16 * k + l) 0) samples.old samples.new }
+pub fn store_lanes_unchecked(samples: &mut [u8], run: TapRun, t: &mut [u8; 256], all: bool)
+    requires { SpacedRun run.at run.step run.along run.n samples.old × (0 < run.n) }
+    ensures { Spread run.at run.step run.along run.n (8 - reach all) (2 * reach all) (λ l k. get_or t.old (16 * k + l) 0) samples.old samples.new }
 {
-    if step == 1 {
-        store_across(samples, at, along, n, t, all);
+    if run.step == 1 {
+        let lines = Across {
+            at: run.at,
+            along: run.along,
+            n: run.n,
+        };
+        store_across(samples, lines, t, all);
     } else {
-        store_down(samples, at, step, n, t, all);
+        let lines = Down {
+            at: run.at,
+            step: run.step,
+            n: run.n,
+        };
+        store_down(samples, lines, t, all);
     }
 }

@@ -1,7 +1,7 @@
 -- A run in lanes is the run position by position.
 -- Assumes nothing.
 use Rattle.std.specs.Prelude.{◌≡◌, ◌⊎◌, List, ℕ, ◌+◌, ◌-◌, ◌*◌, ◌≤◌, ◌<◌, get_or}
-use Rattle.std.proofs.Common.{sym, ap, ◌∙◌, inl, inr, ⊎_elim, zero-add, arith, ne_eqb}
+use Rattle.std.proofs.Common.{sym, ap, ◌∙◌, inl, inr, ⊎_elim, zero-add, arith}
 use Rattle.std.proofs.Math.Decide.{dec_lt}
 use Rattle.lanes.specs.Lanes.{lane_of, EachLane, Lanes}
 use Rattle.lanes.specs.LanesLaws.{lane_length, lane_tap}
@@ -15,14 +15,6 @@ use Rattle.lane_runs.specs.Spread.{place_of, Spread, SpacedRun, Loaded, Taken}
 use Rattle.lane_runs.specs.SpreadLaws.{spread_no_taps, spread-taken}
 use Rattle.lane_runs.specs.Local.{Local, local_wider, sample_local}
 use Rattle.lane_runs.specs.PlainRunLaws.{spread_run}
-
--- every size above 1 filters alike
-pub sample_filtering_large : (B size limit blimit thresh : ℕ) → 1 < size → sample_filtering B size limit blimit thresh ≡ sample_filtering B 2 limit blimit thresh
-unfolding sample_filtering
-sample_filtering_large B size limit blimit thresh h = λ i t. same t i
-  where
-    same : (t : List ℕ) → sample_filtering B size limit blimit thresh t ≡ sample_filtering B 2 limit blimit thresh t
-    same t = rw (ne_eqb size 0 (λ e. omega arith), ne_eqb size 1 (λ e. omega arith))
 
 -- ---- each lane by a line filter of its own
 

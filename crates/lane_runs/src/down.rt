@@ -1,52 +1,49 @@
 // Positions that stand side by side, as along a horizontal edge: the samples of one tap are a row of the window and of the table.
-ghost use Rattle.std.specs.Prelude.{◌≡◌, ◌+◌, ◌*◌, ◌≤◌, ◌<◌, get_or};
+ghost use Rattle.std.specs.Prelude.{◌≡◌, ◌+◌, ◌*◌, ◌<◌, get_or};
 ghost use Rattle.lane_runs.specs.Spread.{Spread, SpacedRun, Loaded};
 
 use crate::lines::Lines;
-use crate::rows::{Places, copy_rows_unchecked};
+use crate::rows::{Places, Rows, copy_rows_unchecked};
 
 #[derive(Clone, Copy)]
-pub(crate) struct Down {
+pub struct Down {
+    pub at: usize,
     // How far taps are apart.
-    pub(crate) step: usize,
+    pub step: usize,
+    pub n: usize,
+    pub ghost some: { 0 < n },
 }
 
 impl Lines for Down {
+    ghost at = { λ s. s.at };
+
     ghost step = { λ s. s.step };
 
     ghost along = { λ s. 1 };
 
-    fn gather(self, samples: &[u16], at: usize, n: usize, lo: usize, m: usize) -> [u16; 256] {
+    ghost n = { λ s. s.n };
+
+    fn count(self) -> usize {
+        self.n
+    }
+
+    fn gather(self, samples: &[u16], taps: Rows) -> [u16; 256] {
         let mut t = [0u16; 256];
+        let table = Places { at: 0, apart: 16 };
         let window = Places {
-            at,
+            at: self.at,
             apart: self.step,
         };
-        copy_rows_unchecked(
-            &mut t,
-            Places { at: 0, apart: 16 },
-            samples,
-            window,
-            n,
-            lo,
-            m,
-        );
+        copy_rows_unchecked(&mut t, table, samples, window, self.n, taps);
         t
     }
 
-    fn scatter(
-        self,
-        samples: &mut [u16],
-        at: usize,
-        n: usize,
-        t: &[u16; 256],
-        lo: usize,
-        m: usize,
-    ) {
+    fn scatter(self, samples: &mut [u16], t: &[u16; 256], taps: Rows) {
+        let table = Places { at: 0, apart: 16 };
         let window = Places {
-            at,
+            at: self.at,
             apart: self.step,
         };
-        copy_rows_unchecked(samples, window, t, Places { at: 0, apart: 16 }, n, lo, m);
+        copy_rows_unchecked(samples, window, t, table, self.n, taps);
     }
 }

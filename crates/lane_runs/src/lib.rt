@@ -1,14 +1,14 @@
 // Runs of at most 16 positions that share no samples, filtered side by side in lanes.
 #![tactic(auto)]
 
-ghost use Rattle.std.specs.Prelude.{◌≡◌, true, ◌⊎◌, ◌+◌, ◌*◌, ◌≤◌, ◌<◌, length, get_or};
+ghost use Rattle.std.specs.Prelude.{◌≡◌};
 ghost use Rattle.line.specs.SampleFiltering.{sample_filtering};
 ghost use Rattle.window.specs.InsideRun.{plain_run};
 ghost use Rattle.window.specs.Stencil.{in_turn};
 ghost use Rattle.lane_runs.specs.Spread.{LaneRun};
 
-mod across;
-mod down;
+pub mod across;
+pub mod down;
 mod lines;
 pub mod rows;
 
@@ -17,28 +17,35 @@ use base::depth::Depth;
 use down::Down;
 use lines::filter_lines;
 use strength::FilterStrength;
+use tap_places::tap_run::TapRun;
 
-// n positions: p7 of the first is at the place at, taps are step apart and positions along, one of them 1. The work without tests,
-// for a caller that has made them.
+// The work without tests, for a caller that has made them.
 pub fn filter_lane_run_unchecked(
     samples: &mut [u16],
-    at: usize,
-    step: usize,
-    along: usize,
-    n: usize,
+    run: TapRun,
     depth: Depth,
     size: u8,
     strength: FilterStrength,
 )
-    requires { LaneRun at step along n samples.old × ((step ≡ 1) ⊎ (along ≡ 1)) }
-    ensures { samples.new ≡ in_turn (plain_run at step along (sample_filtering depth.bits size strength.limit strength.blimit strength.thresh)) n samples.old }
+    requires { LaneRun run.at run.step run.along run.n samples.old }
+    ensures { samples.new ≡ in_turn (plain_run run.at run.step run.along (sample_filtering depth.bits size strength.limit strength.blimit strength.thresh)) run.n samples.old }
 {
-    if n == 0 {
+    if run.n == 0 {
         return;
     }
-    if along == 1 {
-        filter_lines(Down { step }, samples, at, n, depth, size, strength);
+    if run.step == 1 {
+        let lines = Across {
+            at: run.at,
+            along: run.along,
+            n: run.n,
+        };
+        filter_lines(lines, samples, depth, size, strength);
     } else {
-        filter_lines(Across { along }, samples, at, n, depth, size, strength);
+        let lines = Down {
+            at: run.at,
+            step: run.step,
+            n: run.n,
+        };
+        filter_lines(lines, samples, depth, size, strength);
     }
 }

@@ -1,46 +1,58 @@
 // The lines of a run, which stand one way or the other: loaded into lanes, filtered, and stored.
-ghost use Rattle.std.specs.Prelude.{◌≡◌, true, ℕ, ◌+◌, ◌*◌, ◌≤◌, ◌<◌, get_or};
+ghost use Rattle.std.specs.Prelude.{◌≡◌, ℕ, ◌+◌, ◌-◌, ◌*◌, get_or};
 ghost use Rattle.line.specs.SampleFiltering.{sample_filtering};
 ghost use Rattle.line.specs.SampleFilteringLaws.{reads, changes};
 ghost use Rattle.window.specs.InsideRun.{plain_run};
 ghost use Rattle.window.specs.Stencil.{in_turn};
 ghost use Rattle.lane_runs.specs.Spread.{Spread, SpacedRun, LaneRun, Loaded};
 
+use crate::rows::Rows;
 use base::depth::Depth;
 use lanes::filter_lanes_unchecked;
 use strength::FilterStrength;
 
-// n lines whose first has its p7 at the place at; of their taps m from the tap lo on.
+// Lines whose taps, or which themselves, stand side by side.
 pub(crate) trait Lines: Copy {
-    // How far taps are apart, and lines.
+    // The place of the first line's p7, how far taps are apart, and lines, and how many lines there are.
+    ghost at: { Self → ℕ };
+
     ghost step: { Self → ℕ };
 
     ghost along: { Self → ℕ };
 
-    fn gather(self, samples: &[u16], at: usize, n: usize, lo: usize, m: usize) -> [u16; 256]
-        requires { SpacedRun at (step self) (along self) n samples.now × (0 < n) × (lo + m ≤ 16) }
-        ensures { Loaded at (step self) (along self) n lo m samples.now result };
+    ghost n: { Self → ℕ };
 
-    fn scatter(self, samples: &mut [u16], at: usize, n: usize, t: &[u16; 256], lo: usize, m: usize)
-        requires { SpacedRun at (step self) (along self) n samples.old × (0 < n) × (lo + m ≤ 16) }
-        ensures { Spread at (step self) (along self) n lo m (λ l k. get_or t.now (16 * k + l) 0) samples.old samples.new };
+    fn count(self) -> usize
+        ensures { result ≡ n self };
+
+    fn gather(self, samples: &[u16], taps: Rows) -> [u16; 256]
+        requires { SpacedRun (at self) (step self) (along self) (n self) samples.now }
+        ensures { Loaded (at self) (step self) (along self) (n self) taps.lo taps.m samples.now result };
+
+    fn scatter(self, samples: &mut [u16], t: &[u16; 256], taps: Rows)
+        requires { SpacedRun (at self) (step self) (along self) (n self) samples.old }
+        ensures { Spread (at self) (step self) (along self) (n self) taps.lo taps.m (λ l k. get_or t.now (16 * k + l) 0) samples.old samples.new };
 }
 
-// The taps on each side of the edge that a size reads, and those that it can change.
+// The taps that a size reads, as many on each side of the edge, and those that it can change.
 
-fn reads(size: u8) -> usize
-    ensures { result ≡ reads size }
+fn read_taps(size: u8) -> Rows
+    ensures { (result.lo ≡ 8 - reads size) × (result.m ≡ 2 * reads size) }
 {
-    if size < 2 { 4 } else { 8 }
+    if size < 2 {
+        Rows { lo: 4, m: 8 }
+    } else {
+        Rows { lo: 0, m: 16 }
+    }
 }
 
-fn changes(size: u8) -> usize
-    ensures { result ≡ changes size }
+fn changed_taps(size: u8) -> Rows
+    ensures { (result.lo ≡ 8 - changes size) × (result.m ≡ 2 * changes size) }
 {
     match size {
-        0 => 2,
-        1 => 3,
-        _ => 7,
+        0 => Rows { lo: 6, m: 4 },
+        1 => Rows { lo: 5, m: 6 },
+        _ => Rows { lo: 1, m: 14 },
     }
 }
 
@@ -48,37 +60,31 @@ fn changes(size: u8) -> usize
 fn filter_sized<L: Lines, const SIZE: u8>(
     lines: L,
     samples: &mut [u16],
-    at: usize,
-    n: usize,
     depth: Depth,
     strength: FilterStrength,
 )
-    requires { LaneRun at (L.step lines) (L.along lines) n samples.old × (0 < n) × (SIZE ≤ 2) }
-    ensures { samples.new ≡ in_turn (plain_run at (L.step lines) (L.along lines) (sample_filtering depth.bits SIZE strength.limit strength.blimit strength.thresh)) n samples.old }
+    requires { LaneRun (L.at lines) (L.step lines) (L.along lines) (L.n lines) samples.old }
+    ensures { samples.new ≡ in_turn (plain_run (L.at lines) (L.step lines) (L.along lines) (sample_filtering depth.bits SIZE strength.limit strength.blimit strength.thresh)) (L.n lines) samples.old }
 {
-    let read = reads(SIZE);
-    let changed = changes(SIZE);
-    let mut t = lines.gather(samples, at, n, 8 - read, 2 * read);
-    if filter_lanes_unchecked(&mut t, n, depth, SIZE, strength) {
-        lines.scatter(samples, at, n, &t, 8 - changed, 2 * changed);
+    let mut t = lines.gather(samples, read_taps(SIZE));
+    if filter_lanes_unchecked(&mut t, lines.count(), depth, SIZE, strength) {
+        lines.scatter(samples, &t, changed_taps(SIZE));
     }
 }
 
 pub(crate) fn filter_lines<L: Lines>(
     lines: L,
     samples: &mut [u16],
-    at: usize,
-    n: usize,
     depth: Depth,
     size: u8,
     strength: FilterStrength,
 )
-    requires { LaneRun at (L.step lines) (L.along lines) n samples.old × (0 < n) }
-    ensures { samples.new ≡ in_turn (plain_run at (L.step lines) (L.along lines) (sample_filtering depth.bits size strength.limit strength.blimit strength.thresh)) n samples.old }
+    requires { LaneRun (L.at lines) (L.step lines) (L.along lines) (L.n lines) samples.old }
+    ensures { samples.new ≡ in_turn (plain_run (L.at lines) (L.step lines) (L.along lines) (sample_filtering depth.bits size strength.limit strength.blimit strength.thresh)) (L.n lines) samples.old }
 {
     match size {
-        0 => filter_sized::<L, 0>(lines, samples, at, n, depth, strength),
-        1 => filter_sized::<L, 1>(lines, samples, at, n, depth, strength),
-        _ => filter_sized::<L, 2>(lines, samples, at, n, depth, strength),
+        0 => filter_sized::<L, 0>(lines, samples, depth, strength),
+        1 => filter_sized::<L, 1>(lines, samples, depth, strength),
+        _ => filter_sized::<L, 2>(lines, samples, depth, strength),
     }
 }

@@ -9,6 +9,14 @@ pub struct Places {
     pub apart: usize,
 }
 
+// Of 16 rows m, from the row lo on.
+#[derive(Clone, Copy)]
+pub struct Rows {
+    pub lo: usize,
+    pub m: usize,
+    pub ghost few: { lo + m ≤ 16 },
+}
+
 fn copy_samples<T: Copy>(to: &mut [T], at: usize, from: &[T], place: usize, n: usize)
     requires { (at + n ≤ length to.old) × (place + n ≤ length from.now) }
     ensures { to.new ≡ row_copied from.now place n at to.old }
@@ -30,13 +38,12 @@ fn copy_rows_of<T: Copy, const N: usize>(
     into: Places,
     from: &[T],
     out_of: Places,
-    lo: usize,
-    m: usize,
+    rows: Rows,
 )
-    requires { (lo + m ≤ 16) × RowsLent into.at into.apart N lo m (length to.old) × RowsLent out_of.at out_of.apart N lo m (length from.now) }
-    ensures { to.new ≡ rows_copied from.now out_of.at out_of.apart into.at into.apart N lo m to.old }
+    requires { RowsLent into.at into.apart N rows.lo rows.m (length to.old) × RowsLent out_of.at out_of.apart N rows.lo rows.m (length from.now) }
+    ensures { to.new ≡ rows_copied from.now out_of.at out_of.apart into.at into.apart N rows.lo rows.m to.old }
 {
-    for k in lo..lo + m {
+    for k in rows.lo..rows.lo + rows.m {
         copy_row::<T, N>(
             to,
             into.at + k * into.apart,
@@ -54,13 +61,12 @@ fn copy_rows_any<T: Copy>(
     from: &[T],
     out_of: Places,
     n: usize,
-    lo: usize,
-    m: usize,
+    rows: Rows,
 )
-    requires { (lo + m ≤ 16) × RowsLent into.at into.apart n lo m (length to.old) × RowsLent out_of.at out_of.apart n lo m (length from.now) }
-    ensures { to.new ≡ rows_copied from.now out_of.at out_of.apart into.at into.apart n lo m to.old }
+    requires { RowsLent into.at into.apart n rows.lo rows.m (length to.old) × RowsLent out_of.at out_of.apart n rows.lo rows.m (length from.now) }
+    ensures { to.new ≡ rows_copied from.now out_of.at out_of.apart into.at into.apart n rows.lo rows.m to.old }
 {
-    for k in lo..lo + m {
+    for k in rows.lo..rows.lo + rows.m {
         copy_samples(
             to,
             into.at + k * into.apart,
@@ -71,24 +77,23 @@ fn copy_rows_any<T: Copy>(
     }
 }
 
-// Rows of n samples, m of them from the row lo on. The lengths of whole cells are constants, which are copied as vectors.
+// Rows of n samples. The lengths of whole cells are constants, which are copied as vectors.
 pub fn copy_rows_unchecked<T: Copy>(
     to: &mut [T],
     into: Places,
     from: &[T],
     out_of: Places,
     n: usize,
-    lo: usize,
-    m: usize,
+    rows: Rows,
 )
-    requires { (lo + m ≤ 16) × RowsLent into.at into.apart n lo m (length to.old) × RowsLent out_of.at out_of.apart n lo m (length from.now) }
-    ensures { to.new ≡ rows_copied from.now out_of.at out_of.apart into.at into.apart n lo m to.old }
+    requires { RowsLent into.at into.apart n rows.lo rows.m (length to.old) × RowsLent out_of.at out_of.apart n rows.lo rows.m (length from.now) }
+    ensures { to.new ≡ rows_copied from.now out_of.at out_of.apart into.at into.apart n rows.lo rows.m to.old }
 {
     match n {
-        16 => copy_rows_of::<T, 16>(to, into, from, out_of, lo, m),
-        12 => copy_rows_of::<T, 12>(to, into, from, out_of, lo, m),
-        8 => copy_rows_of::<T, 8>(to, into, from, out_of, lo, m),
-        4 => copy_rows_of::<T, 4>(to, into, from, out_of, lo, m),
-        _ => copy_rows_any(to, into, from, out_of, n, lo, m),
+        16 => copy_rows_of::<T, 16>(to, into, from, out_of, rows),
+        12 => copy_rows_of::<T, 12>(to, into, from, out_of, rows),
+        8 => copy_rows_of::<T, 8>(to, into, from, out_of, rows),
+        4 => copy_rows_of::<T, 4>(to, into, from, out_of, rows),
+        _ => copy_rows_any(to, into, from, out_of, n, rows),
     }
 }

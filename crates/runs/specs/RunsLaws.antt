@@ -1,7 +1,7 @@
 -- Laws of runs, for the code.
 -- Assumes nothing.
-use Rattle.std.specs.Prelude.{◌≡◌, refl, ◌⊎◌, true, List, ℕ, ◌≤◌, length}
-use Rattle.std.proofs.Common.{inl, inr, arith}
+use Rattle.std.specs.Prelude.{◌≡◌, true, List, ℕ, ◌≤◌, length}
+use Rattle.std.proofs.Common.{arith}
 use Rattle.geometry.specs.declared.Pass.{Pass}
 use Rattle.geometry.specs.declared.Pass.TheVariants.{Vertical, Horizontal}
 use Rattle.lane_runs.specs.Spread.{Spaced, SpacedRun, LaneRun}
@@ -10,11 +10,6 @@ use Rattle.window.specs.InsideRun.{inside_run, InsideRun, inside_run_lem, first_
 use Rattle.window.specs.RangeLaws.{InRange}
 use Rattle.window.specs.WindowLaws.{Lent, place_lent}
 use Rattle.window.specs.declared.WindowShape.{WindowShape}
-
--- in one direction taps stand side by side, in the other positions
-pub one_step : (g : WindowShape) (pass : Pass) → (tap_step g pass ≡ 1) ⊎ (along_step g pass ≡ 1)
-one_step g Vertical = inl refl
-one_step g Horizontal = inr refl
 
 spaced : (g : WindowShape) (pass : Pass) (at x y n : ℕ) → g.width ≤ g.stride → InsideRun g pass x y n → Spaced at (tap_step g pass) (along_step g pass) n
 spaced g Vertical at x y n w h = spaced_across at g.stride n (omega arith)

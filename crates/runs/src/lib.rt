@@ -40,17 +40,8 @@ pub fn filter_run_unchecked(
         y: y.0,
     };
     if start.is_inside_unchecked(g, n) {
-        let at = start.first_tap_unchecked(g);
-        filter_lane_run_unchecked(
-            samples,
-            at,
-            start.tap_step(g),
-            start.along_step(g),
-            n,
-            depth,
-            size,
-            strength,
-        );
+        let run = start.taps_unchecked(g, n);
+        filter_lane_run_unchecked(samples, run, depth, size, strength);
     } else {
         filter_border(samples, g, start, n, depth, size, strength);
     }

@@ -5,3 +5,4 @@
 mod place;
 pub mod position;
 pub mod run_start;
+pub mod tap_run;

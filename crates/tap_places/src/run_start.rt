@@ -1,5 +1,4 @@
-// Where a run starts: its positions, how many of them have all their taps in the window, the place of the first tap, and the
-// steps from tap to tap and from position to position.
+// Where a run starts: its positions, how many of them have all their taps in the window, and the places of these taps.
 ghost use Rattle.std.specs.Prelude.{true, ◌≡◌, ◌+◌, ◌≤◌, ◌<◌};
 ghost use Rattle.window.specs.InsideRun.{inside_run, first_tap, tap_step, along_step};
 ghost use Rattle.window.specs.Window.{along_x, along_y};
@@ -7,6 +6,7 @@ ghost use Rattle.tap_places.specs.Near.{Near};
 
 use crate::place::place_of;
 use crate::position::Position;
+use crate::tap_run::TapRun;
 use geometry::Pass;
 use window::WindowShape;
 
@@ -83,34 +83,24 @@ impl RunStart {
         }
     }
 
-    // The place of the first position's p7.
-    pub fn first_tap_unchecked(self, g: WindowShape) -> usize
+    // The taps of n positions.
+    pub fn taps_unchecked(self, g: WindowShape, n: usize) -> TapRun
         requires { Near g self.pass self.x self.y × (g.stride ≤ 131072) }
-        ensures { result ≡ first_tap g self.pass self.x self.y }
+        ensures { (result.at ≡ first_tap g self.pass self.x self.y) × (result.step ≡ tap_step g self.pass) × (result.along ≡ along_step g self.pass) × (result.n ≡ n) }
     {
         match self.pass {
-            Pass::Vertical => place_of(g, self.x - 8, self.y),
-            Pass::Horizontal => place_of(g, self.x, self.y - 8),
-        }
-    }
-
-    // How far the taps of a position are apart.
-    pub fn tap_step(self, g: WindowShape) -> usize
-        ensures { result ≡ tap_step g self.pass }
-    {
-        match self.pass {
-            Pass::Vertical => 1,
-            Pass::Horizontal => g.stride,
-        }
-    }
-
-    // How far the positions of a run are apart.
-    pub fn along_step(self, g: WindowShape) -> usize
-        ensures { result ≡ along_step g self.pass }
-    {
-        match self.pass {
-            Pass::Vertical => g.stride,
-            Pass::Horizontal => 1,
+            Pass::Vertical => TapRun {
+                at: place_of(g, self.x - 8, self.y),
+                step: 1,
+                along: g.stride,
+                n,
+            },
+            Pass::Horizontal => TapRun {
+                at: place_of(g, self.x, self.y - 8),
+                step: g.stride,
+                along: 1,
+                n,
+            },
         }
     }
 }

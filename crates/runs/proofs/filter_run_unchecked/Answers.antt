@@ -1,7 +1,7 @@
 use Rattle.std.proofs.Common.{sym, ◌∙◌}
 use Rattle.line.specs.SampleFiltering.{sample_filtering}
 use Rattle.window.specs.InsideRun.{run_plain}
-use Rattle.runs.specs.RunsLaws.{inside_lanes, one_step}
+use Rattle.runs.specs.RunsLaws.{inside_lanes}
 use Rattle.runs.proofs.filter_run_unchecked.Goals as goal
 
 pub filter_lane_run_unchecked-requires : goal.filter_lane_run_unchecked-requires
@@ -9,12 +9,14 @@ filter_lane_run_unchecked-requires c =
     let a = c.args in
     let p = c.requires in
     let inside = sym c.is_inside_unchecked.ensures ∙ c.if-is_inside_unchecked.true in
-    rw (c.first_tap_unchecked-at.ensures, c.tap_step.ensures, c.along_step.ensures)
-    (inside_lanes a.g a.pass a.x.0 a.y.0 a.n a.samples.now p.0 inside p.3 p.4, one_step a.g a.pass)
+    let made = c.taps_unchecked-run.ensures in
+    rw (made.0, made.1, made.2, made.3)
+    (inside_lanes a.g a.pass a.x.0 a.y.0 a.n a.samples.now p.0 inside p.3 p.4)
 
 pub returns-then-is_inside_unchecked : goal.returns-then-is_inside_unchecked
 returns-then-is_inside_unchecked c =
     let a = c.args in
     let inside = sym c.is_inside_unchecked.ensures ∙ c.if-is_inside_unchecked.true in
-    (rw (c.first_tap_unchecked-at.ensures, c.tap_step.ensures, c.along_step.ensures) at c.filter_lane_run_unchecked.ensures)
+    let made = c.taps_unchecked-run.ensures in
+    (rw (made.0, made.1, made.2, made.3) at c.filter_lane_run_unchecked.ensures)
     ∙ run_plain a.g a.pass a.x.0 a.y.0 a.n (sample_filtering a.depth.bits a.size a.strength.limit a.strength.blimit a.strength.thresh) a.samples.now inside

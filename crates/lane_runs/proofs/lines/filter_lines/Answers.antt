@@ -1,8 +1,12 @@
-use Rattle.std.proofs.Common.{arith}
-use Rattle.lane_runs.specs.LaneRunLaws.{sample_filtering_large}
+use Rattle.std.proofs.Common.{◌≡◌, arith}
+use Rattle.line.specs.SampleFiltering.{sample_filtering}
+use Rattle.line.specs.SampleFilteringLaws.{filters_large}
 use Rattle.lane_runs.proofs.lines.filter_lines.Goals as goal
 
 pub returns-in_default : goal.returns-in_default
 returns-in_default g c =
-    let s = c.args.strength in
-    rw (sample_filtering_large c.args.depth.bits c.args.size s.limit s.blimit s.thresh (omega (arith, c.in_default))) c.filter_sized-in_default.ensures
+    let a = c.args in
+    let s = a.strength in
+    let same : sample_filtering a.depth.bits a.size s.limit s.blimit s.thresh ≡ sample_filtering a.depth.bits 2 s.limit s.blimit s.thresh =
+        λ i t. filters_large a.depth.bits a.size s.limit s.blimit s.thresh t (omega (arith, c.in_default)) i in
+    rw same c.filter_sized-in_default.ensures

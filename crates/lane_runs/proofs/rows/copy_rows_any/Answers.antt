@@ -5,9 +5,9 @@ use Rattle.lane_runs.proofs.rows.copy_rows_any.Goals as goal
 
 pub loop-k-init : goal.loop-k-init
 unfolding rows_copied
-loop-k-init g c = let none : c.args.lo - c.args.lo ≡ 0 = omega arith in rw none
+loop-k-init g c = let none : c.args.rows.lo - c.args.rows.lo ≡ 0 = omega arith in rw none
 
 pub loop-k-preserved : goal.loop-k-preserved
 loop-k-preserved g c =
     let a = c.args in
-    rows_more a.from.now a.out_of.at a.out_of.apart a.into.at a.into.apart a.n a.lo c.loop-k.k a.to.now c.loop-k.to _ (omega arith) c.loop-k.invariant c.copy_samples.ensures
+    rows_more a.from.now a.out_of.at a.out_of.apart a.into.at a.into.apart a.n a.rows.lo c.loop-k.k a.to.now c.loop-k.to _ (omega arith) c.loop-k.invariant c.copy_samples.ensures

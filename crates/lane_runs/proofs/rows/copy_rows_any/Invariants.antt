@@ -4,4 +4,4 @@ use Rattle.lane_runs.proofs.rows.copy_rows_any.Given as goal
 
 abbrev pub invariant-loop-k : goal.invariant-loop-k
 invariant-loop-k g l =
-    l.to ≡ rows_copied l.from l.out_of.at l.out_of.apart l.into.at l.into.apart l.n l.lo (l.k - l.lo) l.initial.to
+    l.to ≡ rows_copied l.from l.out_of.at l.out_of.apart l.into.at l.into.apart l.n l.fn.rows.lo (l.k - l.fn.rows.lo) l.initial.to

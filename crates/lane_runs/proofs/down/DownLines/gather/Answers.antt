@@ -8,10 +8,14 @@ zeros = length-replicate {A = ℕ} 256 0
 
 pub copy_rows_unchecked-requires : goal.copy_rows_unchecked-requires
 copy_rows_unchecked-requires c =
-    let (run, some, few) = c.requires in
-    (few, table_rows run (replicate 256 0) zeros _ _ few, run_rows run some _ _ few)
+    let run = c.requires in
+    let some = c.args.self.some in
+    let few = c.args.taps.few in
+    (table_rows run (replicate 256 0) zeros _ _ few, run_rows run some _ _ few)
 
 pub returns : goal.returns
 returns c =
-    let (run, some, few) = c.requires in
+    let run = c.requires in
+    let some = c.args.self.some in
+    let few = c.args.taps.few in
     rw c.copy_rows_unchecked.ensures (rows_loaded run some _ _ few _ zeros)
