@@ -9,7 +9,8 @@ ghost use Rattle.window.specs.WindowLaws.{Lent, uncountable};
 use base::search::first_place;
 
 // Rows of a plane's samples in a list that a caller lends: height rows of width samples, stride apart, the first of them at the
-// plane's row top, which document 01 calls y origin.
+// plane's row top, which document 01 calls y origin. The shape is no field beside the samples: a function that writes would then
+// have to ensure that the shape is kept, which is as much to say as that it asks for samples of this shape.
 #[repr(C)]
 #[derive(Clone, Copy)]
 pub struct WindowShape {
