@@ -33,6 +33,7 @@ impl LvlLookup {
 }
 
 // The entry of any segment, reference and mode type, of a table that is lent.
+#[tactic(auto, unfolding(crate::specs::LevelLookup::lookup_of))]
 pub fn find_level(levels: &[u8; 64], segment_id: usize, ref_frame: i32, mode: usize) -> Option<u8>
     ensures { result ≡ lookup_of levels.now segment_id ref_frame mode }
 {

@@ -6,9 +6,6 @@ use Rattle.edges.specs.declared.SuperblockFilterEdge.{SuperblockFilterEdge}
 use Rattle.c_edges.specs.EdgeEntry.{entry_of, mi_of}
 use Rattle.c_edges.proofs.springspade_edge.Goals as goal
 
-pub returns-in-Ok : goal.returns-in-Ok
-returns-in-Ok c = rw (to_z-of_z c.ranges.ref_frame) at (c.accepted.ensures ∙ ap entry_of c.in-Ok.ensures)
-
 pub returns-in-Err : goal.returns-in-Err
 returns-in-Err c =
     let a = c.args in

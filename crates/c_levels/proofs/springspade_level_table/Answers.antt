@@ -33,18 +33,6 @@ pub returns-then-deltas-deltas_present : goal.returns-then-deltas-deltas_present
 unfolding level_entry
 returns-then-deltas-deltas_present c = rw (le-ltb _ _ c.if-level-gt63.false, c.if-deltas-deltas_present.true) (c.from-then-deltas-deltas_present.ensures, refl)
 
-pub loop_filter_params-lf-requires : goal.loop_filter_params-lf-requires
-loop_filter_params-lf-requires c =
-    let l = long (length c.args.deltas.now) (length c.args.deltas_present.now) (length c.args.feature_enabled.now) (length c.args.feature_data.now) (length c.args.levels.now) c.if-deltas-deltas_present.false in (l.deltas_long, l.present_long)
-
-pub segmentation_params-seg-requires : goal.segmentation_params-seg-requires
-segmentation_params-seg-requires c =
-    let l = long (length c.args.deltas.now) (length c.args.deltas_present.now) (length c.args.feature_enabled.now) (length c.args.feature_data.now) (length c.args.levels.now) c.if-deltas-deltas_present.false in (l.on_long, l.features_long)
-
-pub store_levels-requires : goal.store_levels-requires
-store_levels-requires c =
-    let l = long (length c.args.deltas.now) (length c.args.deltas_present.now) (length c.args.feature_enabled.now) (length c.args.feature_data.now) (length c.args.levels.now) c.if-deltas-deltas_present.false in l.levels_long
-
 pub returns-in-Ok : goal.returns-in-Ok
 unfolding level_entry
 returns-in-Ok c =

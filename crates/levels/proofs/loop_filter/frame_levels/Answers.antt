@@ -12,8 +12,3 @@ loop-segment-preserved c =
     let a = c.args in
     rw (c.store_segment.ensures, c.segment_level-lvl.ensures.0, c.loop-segment.invariant)
     (segment_more a.lf a.seg a.deltas c.loop-segment.segment zero_levels)
-
-pub returns : goal.returns
-returns c =
-    let all : c.loop-segment.segment ≡ 8 = omega arith in
-    rw all at c.loop-segment.invariant

@@ -13,6 +13,3 @@ loop-k-preserved c =
     let k = c.loop-k.k in
     rw (c.loop-k.invariant, c.entry_level.ensures, placed a.lf a.deltas a.lvl a.segment k c.loop-k-test.true)
     (filled_more (segment_lvl a.lf a.deltas a.lvl) (a.segment * 8) k a.levels.now)
-
-pub returns : goal.returns
-returns c = let all : c.loop-k.k ≡ 8 = omega arith in rw all at c.loop-k.invariant
