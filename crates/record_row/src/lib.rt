@@ -18,8 +18,8 @@ fn store_records_unchecked(words: &[u32], count: usize, records: &mut [CellRecor
     requires { (count ≤ length words.now) × (count ≤ length records.old) }
     ensures { records.new ≡ stored words.now count records.old }
 {
-    for k in 0..count {
-        records[k] = record_of(words[k]);
+    for (k, word) in words[..count].iter().enumerate() {
+        records[k] = record_of(*word);
     }
 }
 
