@@ -2,7 +2,6 @@
 -- Assumes nothing.
 use Rattle.std.specs.Prelude.{◌≡◌, List, ℕ, ◌+◌, ◌*◌, ◌/◌, ◌%◌, ◌<◌, pos, ◌+ℤ◌, get_or}
 use Rattle.std.proofs.Common.{◌∙◌, zero-add, arith, ne_eqb}
-use lib.IntN.{+ℤ_assoc}
 use Rattle.base.specs.Filled.{filled, filled_join, filled_same}
 use Rattle.base.specs.Notation.{shl_z}
 use Rattle.levels.specs.Levels.{clipped_level, n_shift, lvl_seg, inter_lvl, delta_lvl, entry_lvl, segment_lvl, place_lvl}
@@ -14,17 +13,6 @@ use Rattle.frame_header.specs.declared.Deltas.{Deltas}
 pub delta_sum : (lf : LoopFilterParams) (deltas : Deltas) (lvl ref mode : ℕ) → (ref ≡ 0 → ⊥) → clipped_level (pos lvl +ℤ (shl_z (get_or deltas.refs ref (pos 0)) (n_shift lf) +ℤ shl_z (get_or deltas.modes mode (pos 0)) (n_shift lf))) ≡ delta_lvl lf deltas lvl ref mode
 unfolding inter_lvl
 delta_sum lf deltas lvl ref mode h = rw (ne_eqb ref 0 h, +ℤ_assoc)
-
--- the entry k of a segment, at its place in the table
-pub placed : (lf : LoopFilterParams) (deltas : Deltas) (lvl segment k : ℕ) → k < 8 → entry_lvl lf deltas lvl (k / 2) (k % 2) ≡ segment_lvl lf deltas lvl (segment * 8 + k)
-unfolding segment_lvl
-placed lf deltas lvl segment k h = rw (reference, mode)
-  where
-    reference : (segment * 8 + k) % 8 / 2 ≡ k / 2
-    reference = omega arith
-
-    mode : (segment * 8 + k) % 2 ≡ k % 2
-    mode = omega arith
 
 -- an entry of a segment is the table's entry at its place
 same : (lf : LoopFilterParams) (seg : SegmentationParams) (deltas : Deltas) (segment k : ℕ) → k < 8 → segment_lvl lf deltas (lvl_seg lf seg segment) (segment * 8 + k) ≡ place_lvl lf seg deltas (segment * 8 + k)
