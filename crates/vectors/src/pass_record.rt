@@ -4,8 +4,8 @@ ghost use Rattle.std.specs.Prelude.{◌≤◌};
 use crate::numbers::{is_answer, size16_at, size32_at, u16_at, u32_at};
 use base::fault::Fault;
 use cell_records::{CellRecord, record_of};
-use pass::superblock_loop_filter_cells;
 use geometry::pass_numbers::PassNumbers;
+use pass::superblock_loop_filter_cells;
 use plane_window::pass_plane;
 use record_replay::pass_front_unchecked;
 use std::array;
@@ -82,12 +82,7 @@ pub(crate) fn is_equal(record: &[u8; 2728]) -> bool {
     let cells = cells_of(record);
     let lent = &cells[..lent_cells(record)];
     is_equal_by(record, |samples| {
-        superblock_loop_filter_cells(
-            samples,
-            window_of(record),
-            lent,
-            numbers_of(record),
-        )
+        superblock_loop_filter_cells(samples, window_of(record), lent, numbers_of(record))
     })
 }
 
@@ -95,12 +90,7 @@ pub(crate) fn is_equal_in_window(record: &[u8; 2728]) -> bool {
     let cells = cells_of(record);
     let lent = &cells[..lent_cells(record)];
     is_equal_by(record, |samples| {
-        pass_plane(
-            samples,
-            lent,
-            window_of(record),
-            numbers_of(record),
-        )
+        pass_plane(samples, lent, window_of(record), numbers_of(record))
     })
 }
 
