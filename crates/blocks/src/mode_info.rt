@@ -4,7 +4,7 @@ ghost use Rattle.blocks.specs.ModeInfo.{bad_block, sb_size, is_intra};
 
 const BLOCK_16X16: u8 = 6;
 
-// Document 01's test 8.
+// Document 01's test 8. Numbers and no enums: they arrive as lent bytes, where any value may stand.
 #[tactic(auto, unfolding(crate::specs::ModeInfo::bad_block))]
 pub fn bad_block(mi_size: u8, tx_size: u8, skip: u8) -> bool
     ensures { result ≡ bad_block mi_size tx_size skip }
@@ -24,6 +24,7 @@ pub fn sb_size(sub: bool, mi_size: u8) -> u8
     }
 }
 
+#[tactic(auto, unfolding(crate::specs::ModeInfo::is_intra))]
 pub fn is_intra(ref_frame: i32) -> bool
     ensures { result ≡ is_intra ref_frame }
 {

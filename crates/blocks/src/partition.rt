@@ -12,30 +12,32 @@ const NUM_8X8_BLOCKS_HIGH_LOOKUP: [u8; 13] = [1, 1, 1, 1, 2, 1, 2, 4, 2, 4, 8, 4
 
 // A caller with many blocks takes the tables once: the compiler lays a constant array on the stack where it is read.
 
+#[tactic(auto, unfolding(base::specs::Filled::filled, crate::specs::BlockSizes::mi_width_log2))]
 pub fn mi_width_log2_table() -> [u8; 13]
     ensures { result ≡ by_size mi_width_log2 }
 {
     MI_WIDTH_LOG2_LOOKUP
 }
 
+#[tactic(auto, unfolding(base::specs::Filled::filled, crate::specs::BlockSizes::mi_height_log2))]
 pub fn mi_height_log2_table() -> [u8; 13]
     ensures { result ≡ by_size mi_height_log2 }
 {
     MI_HEIGHT_LOG2_LOOKUP
 }
 
+#[tactic(auto, unfolding(crate::specs::BlockSizes::num8x8_wide, crate::specs::BlockSizes::mi_width_log2))]
 pub fn num_8x8_wide_unchecked(size: u8) -> u8
     requires { size ≤ 12 }
     ensures { result ≡ num8x8_wide size }
 {
-    let at = size as usize;
-    NUM_8X8_BLOCKS_WIDE_LOOKUP[at]
+    NUM_8X8_BLOCKS_WIDE_LOOKUP[usize::from(size)]
 }
 
+#[tactic(auto, unfolding(crate::specs::BlockSizes::num8x8_high, crate::specs::BlockSizes::mi_height_log2))]
 pub fn num_8x8_high_unchecked(size: u8) -> u8
     requires { size ≤ 12 }
     ensures { result ≡ num8x8_high size }
 {
-    let at = size as usize;
-    NUM_8X8_BLOCKS_HIGH_LOOKUP[at]
+    NUM_8X8_BLOCKS_HIGH_LOOKUP[usize::from(size)]
 }

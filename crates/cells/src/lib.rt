@@ -4,7 +4,7 @@
 ghost use Rattle.std.specs.Prelude.{◌≡◌};
 ghost use Rattle.cells.specs.Cell.{packed, cell_of, Fields};
 
-// What the pass reads of a cell.
+// What the pass reads of a cell. A flag and a level and no Option, since C reads the record as it stands.
 #[repr(C)]
 #[derive(Clone, Copy)]
 pub struct LfCell {

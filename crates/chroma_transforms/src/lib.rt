@@ -9,6 +9,7 @@ use std::array;
 
 const BLOCK_8X8: u8 = 3;
 
+// A number among the sizes and no Option, since the standard's lists have it as an entry.
 const BLOCK_INVALID: u8 = 14;
 
 const MAX_TXSIZE_LOOKUP: [u8; 13] = [0, 0, 0, 1, 1, 1, 2, 2, 2, 3, 3, 3, 3];
@@ -23,19 +24,19 @@ const SS_SIZE_LOOKUP_1_0: [u8; 13] = [14, 14, 0, 1, 14, 3, 4, 14, 6, 7, 14, 9, 1
 
 const SS_SIZE_LOOKUP_1_1: [u8; 13] = [14, 14, 14, 0, 1, 2, 3, 4, 5, 6, 7, 8, 9];
 
+#[tactic(auto, unfolding(crate::specs::ChromaTransforms::max_tx_size))]
 fn max_tx_size_unchecked(size: u8) -> u8
     requires { size ≤ 12 }
     ensures { result ≡ max_tx_size size }
 {
-    let at = size as usize;
-    MAX_TXSIZE_LOOKUP[at]
+    MAX_TXSIZE_LOOKUP[usize::from(size)]
 }
 
 fn ss_size_unchecked(size: u8, subx: bool, suby: bool) -> u8
     requires { size ≤ 12 }
     ensures { result ≡ ss_size size subx suby }
 {
-    let at = size as usize;
+    let at = usize::from(size);
     match (subx, suby) {
         (false, false) => SS_SIZE_LOOKUP_0_0[at],
         (false, true) => SS_SIZE_LOOKUP_0_1[at],

@@ -2,7 +2,8 @@
 // decides by them.
 #![tactic(auto)]
 
-// Whether a position is filtered, with which size and level, and whether its cell has a level at all.
+// Whether a position is filtered, with which size and level, and whether its cell has a level at all. Flags beside numbers, since the
+// definitions speak of each apart, and no code makes one.
 #[derive(Clone, Copy)]
 pub struct Decision {
     pub decided: bool,

@@ -17,7 +17,8 @@ use geometry::{Luma, Pass, Superblock, bad_frame_size, bad_start, bad_subsamplin
 use pass_edges::{edge_count, edge_len, pass_of};
 use positions::{EdgePosition, PlacedSuperblock};
 
-// What an edge reads of its cell: MiSize, the transform that holds in the plane, skip, and reference 0.
+// What an edge reads of its cell: MiSize, the transform that holds in the plane, skip, and reference 0. Numbers and no enums, as C lends
+// them: any value is taken and tested.
 #[derive(Clone, Copy, Debug, PartialEq, Eq)]
 pub struct SuperblockFilterMi {
     pub mi_size: u8,

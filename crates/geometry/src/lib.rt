@@ -62,12 +62,14 @@ impl Luma {
 
 // Document 01's tests 3, 4, and 5 and 10.
 
+#[tactic(auto, unfolding(crate::specs::Frame::bad_subsampling))]
 pub fn bad_subsampling(x: u8, y: u8) -> bool
     ensures { result ≡ bad_subsampling x y }
 {
     (1 < x) | (1 < y)
 }
 
+#[tactic(auto, unfolding(crate::specs::Frame::bad_frame_size))]
 pub fn bad_frame_size(cols: usize, rows: usize) -> bool
     ensures { result ≡ bad_frame_size cols rows }
 {
@@ -75,6 +77,7 @@ pub fn bad_frame_size(cols: usize, rows: usize) -> bool
 }
 
 // Of a row with MiRows, of a column with MiCols.
+#[tactic(auto, unfolding(crate::specs::Frame::bad_start))]
 pub fn bad_start(start: usize, count: usize) -> bool
     ensures { result ≡ bad_start start count }
 {

@@ -47,6 +47,7 @@ fn fetch_pair<C: Words>(words: &mut [u32; 64], cells: C, t: SmallTurned, e: usiz
 {
     let base = base_of(t, e);
     let size = cells.count();
+    // By an index, since a word's place in the cells is made of it too.
     for c in 0..8 {
         let at = place_from(base, t.of.paired, t.of.along, c, size);
         words[8 * e + c] = cells.word_unchecked(at);
@@ -57,6 +58,7 @@ pub(crate) fn fetch<C: Words>(words: &mut [u32; 64], cells: C, t: SmallTurned)
     requires { 0 < length (C.words cells) }
     ensures { words.new ≡ fetched t.of (C.words cells) words.old }
 {
+    // Over the pairs that there are, 4 or 8: what lies behind them stays.
     for e in 0..pair_count(t.of.sub) {
         fetch_pair(words, cells, t, e);
     }

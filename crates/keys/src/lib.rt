@@ -6,7 +6,7 @@ ghost use Rattle.base.specs.Filled.{filled};
 ghost use Rattle.base.specs.First.{found};
 ghost use Rattle.geometry.specs.Frame.{cells_from};
 ghost use Rattle.keys.specs.Keys.{Told};
-ghost use Rattle.keys.specs.PlainKeys.{limits_of, pairs, key_by, lack_by, plain_key, plain_lack, PlainTold};
+ghost use Rattle.keys.specs.PlainKeys.{turned_of, limits_of, pairs, key_by, lack_by, plain_key, plain_lack, PlainTold};
 
 mod edge_keys;
 mod edge_limits;
@@ -39,6 +39,7 @@ fn put_pair(
     let n = limits_of(t, 2 * e);
     let m = limits_of(t, 2 * e + 1);
     let mut lacking = false;
+    // By an index, since it is a place in three lists, and the cell's number for its limits.
     for c in 0..8 {
         let w = words[8 * e + c];
         let log = (w >> t.of.log) % 4;
@@ -61,6 +62,7 @@ fn put_keys(outer: &mut [u8; 64], inner: &mut [u8; 64], words: &[u32; 64], t: Sm
     ensures lacking { result ≡ found (plain_lack t.of words.now) (8 * pairs t.of.sub) }
 {
     let mut lacking = false;
+    // Over the pairs that there are: they are numbers, and index no list here.
     for e in 0..pair_count(t.of.sub) {
         let r = put_pair(outer, inner, words, t, e);
         lacking = lacking | r;
@@ -68,11 +70,12 @@ fn put_keys(outer: &mut [u8; 64], inner: &mut [u8; 64], words: &[u32; 64], t: Sm
     lacking
 }
 
-// The keys by the words that were fetched. The arrays are local here, which the loop needs to become vectors. A place is looked for
-// only after a hit.
-fn keys_by(words: &[u32; 64], t: SmallTurned) -> Keys
-    ensures { PlainTold t.of words.now result }
+// The keys by the words that were fetched. The arrays are local here, which the loop needs to become vectors, and the numbers of the
+// pass are made anew: handed over in memory they took 5 percent longer. A place is looked for only after a hit.
+fn keys_by(words: &[u32; 64], s: PlacedSuperblock, pass: Pass, chroma: bool) -> Keys
+    ensures { PlainTold (turned_of s.of pass chroma) words.now result }
 {
+    let t = turned_of(s, pass, chroma);
     let mut outer = [0u8; 64];
     let mut inner = [0u8; 64];
     let lacking = if put_keys(&mut outer, &mut inner, words, t) {
@@ -92,8 +95,7 @@ pub fn keys_unchecked<C: Words>(cells: C, s: PlacedSuperblock, pass: Pass, chrom
     requires { cells_from s.of.row s.of.cols s.of.rows ≤ length (C.words cells) }
     ensures { Told s.of pass chroma (C.words cells) result }
 {
-    let t = turned_of(s, pass, chroma);
     let mut words = [0u32; 64];
-    fetch(&mut words, cells, t);
-    keys_by(&words, t)
+    fetch(&mut words, cells, turned_of(s, pass, chroma));
+    keys_by(&words, s, pass, chroma)
 }

@@ -34,6 +34,7 @@ pub fn edge_len(s: Superblock, pass: Pass) -> usize
     along(s, pass, 64)
 }
 
+// Of a number that is tested: passes and planes arrive as numbers from C and from sheets, where any may stand.
 pub fn pass_of(pass: u8) -> Pass
     ensures { result ≡ pass_of pass }
 {

@@ -8,7 +8,7 @@ ghost use Rattle.row.specs.RowLists.{lists_of, mi_at};
 use base::search::first_place;
 use blocks::mode_info::bad_block;
 
-// Of one cell: MiSize, TxSize, Skip, RefFrame of list 0, YMode, SegmentId.
+// Of one cell: MiSize, TxSize, Skip, RefFrame of list 0, YMode, SegmentId. Numbers, as they are lent: any value is taken and tested.
 #[derive(Clone, Copy, Debug, PartialEq, Eq)]
 pub struct CellMi {
     pub mi_size: u8,
