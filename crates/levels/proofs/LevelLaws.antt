@@ -1,10 +1,11 @@
 -- Laws of the level table's definitions, for its functions' proofs.
 -- Assumes nothing.
-use Rattle.std.specs.Prelude.{◌≡◌, List, ℕ, ◌+◌, ◌*◌, ◌/◌, ◌%◌, ◌<◌, pos, ◌+ℤ◌, get_or}
+use Rattle.std.specs.Prelude.{◌≡◌, List, ℕ, ◌+◌, ◌*◌, ◌/◌, ◌<◌, pos, ◌+ℤ◌, get_or}
 use Rattle.std.proofs.Common.{◌∙◌, zero-add, arith, ne_eqb}
+use Rattle.std.proofs.Math.IntN.{+ℤ_assoc}
 use Rattle.base.specs.Filled.{filled, filled_join, filled_same}
 use Rattle.base.specs.Notation.{shl_z}
-use Rattle.levels.specs.Levels.{clipped_level, n_shift, lvl_seg, inter_lvl, delta_lvl, entry_lvl, segment_lvl, place_lvl}
+use Rattle.levels.specs.Levels.{clipped_level, n_shift, lvl_seg, inter_lvl, delta_lvl, segment_lvl, place_lvl}
 use Rattle.frame_header.specs.declared.LoopFilterParams.{LoopFilterParams}
 use Rattle.frame_header.specs.declared.SegmentationParams.{SegmentationParams}
 use Rattle.frame_header.specs.declared.Deltas.{Deltas}

@@ -88,6 +88,7 @@ impl TestedFrame {
 
     // The eight entries of a segment whose level is lvl. By a loop for each segment: made at once by array::from_fn, the table took
     // twice as long.
+    #[tactic(auto, using(base::specs::Filled::filled_none, base::specs::Filled::filled_more))]
     fn store_segment(self, levels: &mut [u8; 64], lvl: u8, segment: usize)
         requires { segment < 8 }
         ensures { levels.new ≡ filled (segment_lvl self.lf self.deltas lvl) (segment * 8) 8 levels.old }
@@ -99,10 +100,12 @@ impl TestedFrame {
     }
 
     // The table.
+    #[tactic(auto, using(base::specs::Filled::filled_none, crate::proofs::LevelLaws::segment_more))]
     fn levels(self, seg: SegmentationParams) -> [u8; 64]
         ensures { result ≡ filled (place_lvl self.lf seg self.deltas) 0 64 zero_levels }
     {
         let mut levels = [0; 64];
+        // Over the numbers of the segments, which no list holds.
         for segment in 0..8 {
             let lvl = self.segment_level(seg, segment);
             self.store_segment(&mut levels, lvl, segment);

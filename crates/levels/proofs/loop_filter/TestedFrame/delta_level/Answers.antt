@@ -1,6 +1,5 @@
-use Rattle.std.proofs.Common.{◌≡◌, ◌∙◌, ap, ℤ, to_z, of_z, ◌<◌, ◌^◌, ◌+ℤ◌, pos, get_or, w8, w32, arith, rules, to_z-of_z}
+use Rattle.std.proofs.Common.{FitsSigned, ◌≡◌, ◌∙◌, ap, ℤ, to_z, of_z, ◌<◌, ◌^◌, ◌+ℤ◌, pos, get_or, w8, w32, arith, rules, to_z-of_z}
 use Rattle.std.specs.Int.Signed.{mag}
-use mir.Val.{SFits}
 use Rattle.base.specs.Notation.{shl_z}
 use Rattle.base.specs.NotationLaws.{mag_add}
 use Rattle.base.specs.Machine.{back}
@@ -12,8 +11,8 @@ pub returns : goal.returns
 returns c =
     let a = c.scaled-of_reference in
     let b = c.scaled-of_mode in
-    let f : SFits w8 (get_or c.args.self.deltas.refs c.args.reference (pos 0)) = search rules in
-    let g : SFits w8 (get_or c.args.self.deltas.modes c.args.mode (pos 0)) = search rules in
+    let f : FitsSigned w8 (get_or c.args.self.deltas.refs c.args.reference (pos 0)) = search rules in
+    let g : FitsSigned w8 (get_or c.args.self.deltas.modes c.args.mode (pos 0)) = search rules in
     let of_reference = rw (to_z-of_z f) at a.ensures.0 in
     let of_mode = rw (to_z-of_z g) at b.ensures.0 in
     let small : mag (a.result +ℤ b.result) < 2 ^ 31 = omega (arith, mag_add a.result b.result a.ensures.1 b.ensures.1) in
