@@ -1,4 +1,5 @@
-// What crosses the border after a call.
+// What crosses the border after a call. The functions of springspade and of the crates c_* have one name and plain arguments each, since a
+// static library exports its own functions alone, and none that is generic.
 #![tactic(auto)]
 
 ghost use Rattle.std.specs.Prelude.{◌≡◌};
@@ -7,6 +8,8 @@ ghost use Rattle.c_border.specs.Border.{numbers_of, crossing};
 
 use base::fault::Fault;
 
+// Two numbers and no Result, since it crosses to C.
+//
 // What a call answers: number and place 0 where it was accepted, else the number of the refusal and its place, which is
 // 0 where the number names none. Of several refusals the lowest number is given, with its smallest place. A refused
 // call writes nothing.

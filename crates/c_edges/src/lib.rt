@@ -12,6 +12,8 @@ use base::fault::Fault;
 use edges::{SuperblockFilterEdge, SuperblockFilterMi};
 use geometry::Luma;
 
+// Numbers and flags and no Result, since it crosses to C.
+//
 // The answer of springspade_edge: number and place 0 with the facts, or the number of the refusal with zeros.
 #[repr(C)]
 #[derive(Clone, Copy)]

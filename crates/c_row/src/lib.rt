@@ -13,7 +13,8 @@ use cells::LfCell;
 use row::mode_info::ModeInfoLists;
 use row::row_cells;
 
-// Packs the cells of the superblock row at mi_row into the front of cells; words behind them are left.
+// Packs the cells of the superblock row at mi_row into the front of cells; words behind them are left. The lists come one by one, and each kind
+// as a number that is tested, since they cross from C.
 pub fn springspade_row(
     mi_sizes: &[u8],
     tx_sizes: &[u8],

@@ -6,6 +6,8 @@ ghost use Rattle.std.specs.Prelude.{◌≡◌};
 ghost use Rattle.strength.specs.Strength.{mode_type, strength_for};
 ghost use Rattle.c_strength.specs.StrengthEntry.{entry_of};
 
+// Numbers and no Result, since it crosses to C.
+//
 // The answer of springspade_strength: number and place 0 with the three values, or the number of the refusal with
 // zeros. The values are those of 8 bits; springspade_line scales them to its bit_depth.
 #[repr(C)]

@@ -6,6 +6,8 @@ ghost use Rattle.cell_records.specs.CellRecord.{too_large, word_of, record_in, r
 
 use cells::{LfCell, pack_unchecked};
 
+// Bytes and no Option or enum, since it crosses to C.
+//
 // A cell as LfCell, with a byte for each field.
 #[repr(C)]
 #[derive(Clone, Copy)]

@@ -23,7 +23,8 @@ pub struct SegmentationParams {
     pub features: [Option<i16>; 32],
 }
 
-// The data of a segmentation feature, if it is active (6.4.9). A segment above 7 or a feature above 3 is never active.
+// The data of a segmentation feature, if it is active (6.4.9). A segment above 7 or a feature above 3 is never active: both are
+// numbers and no enum, as C and the standard's loops count them, and any is taken.
 #[tactic(auto, unfolding(crate::specs::Params::active_feature))]
 pub fn active_feature(seg: SegmentationParams, segment_id: usize, feature: usize) -> Option<i16>
     ensures { result ≡ active_feature seg segment_id feature }

@@ -32,7 +32,8 @@ impl LvlLookup {
     }
 }
 
-// The entry of any segment, reference and mode type, of a table that is lent.
+// The entry of any segment, reference and mode type, of a table that is lent. They are numbers and no enum, as the lists of mode info and C have
+// them, and any is taken.
 #[tactic(auto, unfolding(crate::specs::LevelLookup::lookup_of))]
 pub fn find_level(levels: &[u8; 64], segment_id: usize, ref_frame: i32, mode: usize) -> Option<u8>
     ensures { result ≡ lookup_of levels.now segment_id ref_frame mode }

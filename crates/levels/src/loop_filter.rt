@@ -15,7 +15,7 @@ use level_lookup::LvlLookup;
 // The segmentation feature that carries a level.
 pub const SEG_LVL_ALT_L: usize = 1;
 
-// Clip3( 0, MAX_LOOP_FILTER, v ).
+// Clip3( 0, MAX_LOOP_FILTER, v ): a step of the standard, as the number of a level.
 #[tactic(auto, unfolding(crate::specs::Levels::clipped_level, base::specs::Notation::clip3))]
 fn clip_level(v: i32) -> u8
     ensures { (result ≡ clipped_level v) × (result ≤ 63) }

@@ -23,6 +23,8 @@ fn store_records_unchecked(words: &[u32], count: usize, records: &mut [CellRecor
     }
 }
 
+// Plain numbers, any of which is taken and tested, since they cross from C.
+//
 // The numbers of springspade_row: the frame's, and the row's.
 #[repr(C)]
 #[derive(Clone, Copy)]

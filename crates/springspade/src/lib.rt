@@ -1,4 +1,5 @@
-// The functions that C calls, each that of its name in the crates c_*, with its contract.
+// The functions that C calls, each that of its name in the crates c_*, with its contract. One name and plain arguments each, since a static
+// library exports its own functions alone, and none that is generic.
 #![tactic(auto)]
 
 mod byte_passes;
