@@ -3,8 +3,9 @@
 use Rattle.std.specs.Prelude.{◌≡◌, List, ℕ, ◌+◌, ◌<◌}
 use Rattle.std.proofs.Common.{arith, Fits}
 use Rattle.std.specs.Int.{w8}
-use Rattle.lane_filters.specs.LaneSamples.{samples_of, Small}
-use Rattle.lane_filters.specs.declared.Lane.{Lane}
+use Rattle.lane.specs.LaneSamples.{samples_of}
+use Rattle.lane_filters.specs.Small.{Small}
+use Rattle.lane.specs.declared.Lane.{Lane}
 use Rattle.wide_filter.specs.Taps.{tap, Within}
 use Rattle.wide_filter.specs.WideSums.{AtMost}
 

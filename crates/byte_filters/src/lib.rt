@@ -2,7 +2,7 @@
 #![tactic(auto)]
 
 ghost use Rattle.std.specs.Prelude.{◌≡◌, cond, ◌%◌, ◌/◌, ◌≤◌, ◌<◌, eqb};
-ghost use Rattle.lane_filters.specs.LaneSamples.{samples_of, four_of, six_of, fourteen_of, put_taps};
+ghost use Rattle.lane.specs.LaneSamples.{samples_of, four_of, six_of, fourteen_of, put_taps};
 ghost use Rattle.line.specs.Masks.{hev_mask};
 ghost use Rattle.line.specs.NarrowFilter.{narrow_filter};
 ghost use Rattle.wide_filter.specs.WideFilter.{wide_filter};
@@ -13,8 +13,8 @@ mod narrow;
 mod wide;
 
 use base::sharpness::Sharpness;
-use lane_filters::masks::{filter_mask_unchecked, flat_mask, flat_mask2, hev_mask};
-use lane_filters::{Four, Lane, Six};
+use line::masks::{filter_mask_unchecked, flat_mask, flat_mask2, hev_mask};
+use lane::{Four, Lane, Six};
 use limits::{blimit_of, limit_of};
 use narrow::narrow_filter;
 use wide::{wide_fourteen, wide_six};

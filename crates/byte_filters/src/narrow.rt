@@ -1,10 +1,10 @@
 // The narrow filter (8.8.5.4) on bytes: each value is raised by half its range, and sums and differences stop at the ends of a byte.
 ghost use Rattle.std.specs.Prelude.{◌≡◌, ◌<◌};
 ghost use Rattle.line.specs.NarrowFilter.{narrow_filter};
-ghost use Rattle.lane_filters.specs.LaneSamples.{samples_of, four_of, put_taps};
+ghost use Rattle.lane.specs.LaneSamples.{samples_of, four_of, put_taps};
 ghost use Rattle.lane_filters.specs.RaisedFilter.{raised_base, raised_filter, raised_eighth, raised_half, increased, decreased};
 
-use lane_filters::{Four, Lane};
+use lane::{Four, Lane};
 
 // Step 2, raised by 128: the outer taps count where the variance is high.
 fn filter_base(p1: u8, q1: u8, hev: bool) -> u8

@@ -1,11 +1,11 @@
 // The wide filter (8.8.5.3) on bytes. Its sums take 16 bits: the lane is widened, and what it gives is made bytes again.
 ghost use Rattle.std.specs.Prelude.{◌≡◌, ◌<◌};
-ghost use Rattle.lane_filters.specs.LaneSamples.{samples_of, six_of, fourteen_of, put_taps};
+ghost use Rattle.lane.specs.LaneSamples.{samples_of, six_of, fourteen_of, put_taps};
 ghost use Rattle.wide_filter.specs.Taps.{Within};
 ghost use Rattle.wide_filter.specs.WideFilter.{wide_filter};
 
 use lane_filters::wide::{wide_fourteen_unchecked, wide_six_unchecked};
-use lane_filters::{Lane, Six};
+use lane::{Lane, Six};
 
 fn wide(x: u8) -> u16
     ensures { (result ≡ x) × (result < 256) }

@@ -7,7 +7,7 @@ ghost use Rattle.byte_lanes.specs.ByteLanes.{Keys, ArmsTo, has_arm, arm_lane, na
 
 use base::sharpness::Sharpness;
 use byte_filters::{byte_four, byte_fourteen, byte_six, lane_arm_unchecked};
-use lane_filters::Lane;
+use lane::Lane;
 use lanes::table::{each_lane_unchecked, lane_at_unchecked};
 
 // What filtering changed: some lane, and some tap outside p3 to q3.

@@ -2,8 +2,8 @@
 -- Assumes nothing.
 use Rattle.std.specs.Prelude.{[], ◌∷◌, ℕ}
 use Rattle.wide_filter.specs.WideSums.{AtMost, most_none, most_next}
-use Rattle.lane_filters.specs.LaneSamples.{Small}
-use Rattle.lane_filters.specs.declared.Lane.{Lane}
+use Rattle.lane_filters.specs.Small.{Small}
+use Rattle.lane.specs.declared.Lane.{Lane}
 
 module _ (a : Lane ℕ) (s : Small a) where
   pub p_four : AtMost 4095 (a.p0 ∷ a.p1 ∷ a.p2 ∷ a.p3 ∷ [])

@@ -1,4 +1,4 @@
-pub mod LaneSamples
+pub mod Small
 pub mod DifferenceLaws
 pub mod RaisedFilter
 pub mod RaisedFilterLaws

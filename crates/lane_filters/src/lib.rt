@@ -5,82 +5,17 @@ ghost use Rattle.std.specs.Prelude.{◌≡◌};
 ghost use Rattle.base.specs.Depth.{scaled};
 ghost use Rattle.line.specs.Masks.{filter_mask};
 ghost use Rattle.line.specs.SampleFiltering.{sample_filtering};
-ghost use Rattle.lane_filters.specs.LaneSamples.{samples_of, four_of, six_of, fourteen_of, put_taps, Small};
+ghost use Rattle.lane.specs.LaneSamples.{samples_of, four_of, six_of, fourteen_of, put_taps};
+ghost use Rattle.lane_filters.specs.Small.{Small};
 
-pub mod masks;
 mod narrow;
 pub mod wide;
 
 use base::depth::Depth;
-use masks::{filter_mask_unchecked, flat_mask, flat_mask2, hev_mask};
+use lane::{Four, Lane, Six};
+use line::masks::{filter_mask_unchecked, flat_mask, flat_mask2, hev_mask};
 use narrow::narrow_filter;
 use wide::{wide_fourteen_unchecked, wide_six_unchecked};
-
-// A line by the names of its samples.
-#[derive(Clone, Copy)]
-pub struct Lane<T> {
-    pub p7: T,
-    pub p6: T,
-    pub p5: T,
-    pub p4: T,
-    pub p3: T,
-    pub p2: T,
-    pub p1: T,
-    pub p0: T,
-    pub q0: T,
-    pub q1: T,
-    pub q2: T,
-    pub q3: T,
-    pub q4: T,
-    pub q5: T,
-    pub q6: T,
-    pub q7: T,
-}
-
-// The samples that the narrow filter can change, and those that the wide filter of six can.
-#[derive(Clone, Copy)]
-pub struct Four<T> {
-    pub p1: T,
-    pub p0: T,
-    pub q0: T,
-    pub q1: T,
-}
-
-#[derive(Clone, Copy)]
-pub struct Six<T> {
-    pub p2: T,
-    pub p1: T,
-    pub p0: T,
-    pub q0: T,
-    pub q1: T,
-    pub q2: T,
-}
-
-impl<T: Copy> Lane<T> {
-    pub fn four(self) -> Four<T>
-        ensures { result ≡ record { p1 = self.p1; p0 = self.p0; q0 = self.q0; q1 = self.q1 } }
-    {
-        Four {
-            p1: self.p1,
-            p0: self.p0,
-            q0: self.q0,
-            q1: self.q1,
-        }
-    }
-
-    pub fn six(self) -> Six<T>
-        ensures { result ≡ record { p2 = self.p2; p1 = self.p1; p0 = self.p0; q0 = self.q0; q1 = self.q1; q2 = self.q2 } }
-    {
-        Six {
-            p2: self.p2,
-            p1: self.p1,
-            p0: self.p0,
-            q0: self.q0,
-            q1: self.q1,
-            q2: self.q2,
-        }
-    }
-}
 
 fn with_four(a: Lane<u16>, r: Four<u16>) -> Six<u16>
     ensures { put_taps (samples_of a) 5 (six_of result) ≡ put_taps (samples_of a) 6 (four_of r) }
@@ -119,8 +54,7 @@ fn with_six(a: Lane<u16>, r: Six<u16>) -> Lane<u16>
 }
 
 // Whether a filter is on at all.
-pub fn lane_mask_unchecked(a: Lane<u16>, depth: Depth, limit: u8, blimit: u8) -> bool
-    requires { Small a }
+pub fn lane_mask(a: Lane<u16>, depth: Depth, limit: u8, blimit: u8) -> bool
     ensures { result ≡ filter_mask (scaled depth.bits limit) (scaled depth.bits blimit) (samples_of a) }
 {
     filter_mask_unchecked(a, depth.scaled(limit), depth.scaled(blimit))
@@ -138,7 +72,7 @@ pub fn lane_four_unchecked(
     requires { Small a }
     ensures { put_taps (samples_of a) 6 (four_of result) ≡ sample_filtering depth.bits 0 limit blimit thresh (samples_of a) }
 {
-    if !lane_mask_unchecked(a, depth, limit, blimit) {
+    if !lane_mask(a, depth, limit, blimit) {
         return a.four();
     }
     let hev = hev_mask(a, depth.scaled(thresh));
@@ -149,7 +83,7 @@ pub fn lane_six_unchecked(a: Lane<u16>, depth: Depth, limit: u8, blimit: u8, thr
     requires { Small a }
     ensures { put_taps (samples_of a) 5 (six_of result) ≡ sample_filtering depth.bits 1 limit blimit thresh (samples_of a) }
 {
-    if !lane_mask_unchecked(a, depth, limit, blimit) {
+    if !lane_mask(a, depth, limit, blimit) {
         return a.six();
     }
     if !flat_mask(a, depth.scaled(1)) {
@@ -169,7 +103,7 @@ pub fn lane_fourteen_unchecked(
     requires { Small a }
     ensures { put_taps (samples_of a) 1 (fourteen_of result) ≡ sample_filtering depth.bits 2 limit blimit thresh (samples_of a) }
 {
-    if !lane_mask_unchecked(a, depth, limit, blimit) {
+    if !lane_mask(a, depth, limit, blimit) {
         return a;
     }
     if !flat_mask(a, depth.scaled(1)) {

@@ -3,10 +3,11 @@
 // own: a byte ends where their range does, so that they need no cap and stay in 8 bits.
 ghost use Rattle.std.specs.Prelude.{◌≡◌, ◌-◌, ◌*◌, ◌≤◌, ◌<◌, min};
 ghost use Rattle.line.specs.NarrowFilter.{narrow_filter};
-ghost use Rattle.lane_filters.specs.LaneSamples.{samples_of, four_of, put_taps, Small};
+ghost use Rattle.lane.specs.LaneSamples.{samples_of, four_of, put_taps};
+ghost use Rattle.lane_filters.specs.Small.{Small};
 ghost use Rattle.lane_filters.specs.RaisedFilter.{raised_base, raised_filter, raised_eighth, raised_half, increased, decreased};
 
-use crate::{Four, Lane};
+use lane::{Four, Lane};
 use base::depth::Depth;
 
 // x less y, at least 0 and at most top.

@@ -1,9 +1,10 @@
 // The wide filter (8.8.5.3) of a lane, whose sums fit 16 bits.
 ghost use Rattle.std.specs.Prelude.{◌≡◌};
 ghost use Rattle.wide_filter.specs.WideFilter.{wide_filter};
-ghost use Rattle.lane_filters.specs.LaneSamples.{samples_of, six_of, fourteen_of, put_taps, Small};
+ghost use Rattle.lane.specs.LaneSamples.{samples_of, six_of, fourteen_of, put_taps};
+ghost use Rattle.lane_filters.specs.Small.{Small};
 
-use crate::{Lane, Six};
+use lane::{Lane, Six};
 use wide_filter::side_unchecked;
 
 // The six samples around the edge.

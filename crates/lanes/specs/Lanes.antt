@@ -2,8 +2,8 @@
 -- Assumes nothing.
 use Rattle.std.specs.Prelude.{◌≡◌, false, List, [], ◌∷◌, ℕ, ◌+◌, ◌*◌, ◌<◌, ◌≤◌, length, get_or, map, set}
 use Rattle.base.specs.Depth.{scaled}
-use Rattle.lane_filters.specs.LaneSamples.{samples_of, values_of, put_taps}
-use Rattle.lane_filters.specs.declared.Lane.{Lane}
+use Rattle.lane.specs.LaneSamples.{samples_of, values_of, put_taps}
+use Rattle.lane.specs.declared.Lane.{Lane}
 use Rattle.line.specs.Masks.{filter_mask}
 use Rattle.wide_filter.specs.Taps.{tap}
 

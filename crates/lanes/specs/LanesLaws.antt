@@ -6,8 +6,9 @@ use Rattle.std.proofs.lemmas.Grind.{get_or_default_zero}
 use Rattle.std.proofs.lemmas.List.{get_or-map, map-id, map-set, length-map}
 use Rattle.base.specs.Depth.{scaled}
 use Rattle.base.specs.NotationLaws.{split}
-use Rattle.lane_filters.specs.LaneSamples.{samples_of, values_of, put_taps, Small}
-use Rattle.lane_filters.specs.declared.Lane.{Lane}
+use Rattle.lane.specs.LaneSamples.{samples_of, values_of, put_taps}
+use Rattle.lane_filters.specs.Small.{Small}
+use Rattle.lane.specs.declared.Lane.{Lane}
 use Rattle.line.specs.Masks.{filter_mask}
 use Rattle.line.specs.SampleFiltering.{sample_filtering}
 use Rattle.line.specs.SampleFilteringLaws.{filters_none}

@@ -8,8 +8,9 @@ ghost use Rattle.lanes.specs.Lanes.{Table, Lanes, NoneTo};
 pub mod table;
 
 use base::depth::Depth;
+use lane::Lane;
 use lane_filters::{
-    Lane, lane_four_unchecked, lane_fourteen_unchecked, lane_mask_unchecked, lane_six_unchecked,
+    lane_four_unchecked, lane_fourteen_unchecked, lane_mask, lane_six_unchecked,
 };
 use strength::FilterStrength;
 use table::{each_lane_unchecked, lane_at_unchecked};
@@ -30,7 +31,7 @@ fn any_mask(t: &[u16; 256], m: usize, n: u16, depth: Depth, limit: u8, blimit: u
     let mut on = false;
     for l in 0..m {
         let a = lane_at_unchecked(t, l);
-        on |= lane_mask_unchecked(a, depth, limit, blimit) & ((l as u16) < n);
+        on |= lane_mask(a, depth, limit, blimit) & ((l as u16) < n);
     }
     on
 }

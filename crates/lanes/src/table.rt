@@ -1,11 +1,11 @@
 // Sixteen lanes side by side: tap k of lane l stands at 16 k + l.
 ghost use Rattle.std.specs.Prelude.{◌≡◌, List, ℕ, ◌+◌, ◌<◌, ◌≤◌, length, map};
 ghost use Rattle.std.proofs.Common.{lit≤};
-ghost use Rattle.lane_filters.specs.LaneSamples.{values_of, four_of, six_of, fourteen_of};
+ghost use Rattle.lane.specs.LaneSamples.{values_of, four_of, six_of, fourteen_of};
 ghost use Rattle.lanes.specs.Lanes.{lane_in, lane_of, put_lane, EachLane, Follows};
 
-use lane_filters::masks::Sample;
-use lane_filters::{Four, Lane, Six};
+use line::masks::Sample;
+use lane::{Four, Lane, Six};
 
 pub fn lane_at_unchecked<T: Copy>(t: &[T; 256], l: usize) -> Lane<T>
     requires { l < 16 }

@@ -9,13 +9,14 @@ ghost use Rattle.base.specs.Width.{U16};
 ghost use Rattle.line.specs.SampleFiltering.{sample_filtering};
 ghost use Rattle.line.specs.Line.{reaches, line};
 
-mod masks;
+pub mod masks;
 mod narrow;
 
 use base::depth::Depth;
 use base::fault::Fault;
 use base::search::first_place;
-use masks::{filter_mask, flat_mask, flat_mask2, hev_mask};
+use lane::Lane;
+use masks::{filter_mask_unchecked, flat_mask, flat_mask2, hev_mask};
 use narrow::narrow_filter;
 use wide_filter::{wide_filter_fourteen, wide_filter_six};
 
@@ -31,20 +32,17 @@ pub fn sample_filtering_unchecked(
 )
     ensures { t.new ≡ sample_filtering depth.bits size limit blimit thresh t.old }
 {
-    if !filter_mask(
-        t,
-        u32::from(depth.scaled(limit)),
-        u32::from(depth.scaled(blimit)),
-    ) {
+    let a = Lane::of_line(t);
+    if !filter_mask_unchecked(a, depth.scaled(limit), depth.scaled(blimit)) {
         return;
     }
-    let one = u32::from(depth.scaled(1));
-    if (size == 0) | !flat_mask(t, one) {
-        let hev = hev_mask(t, u32::from(depth.scaled(thresh)));
+    let one = depth.scaled(1);
+    if (size == 0) | !flat_mask(a, one) {
+        let hev = hev_mask(a, depth.scaled(thresh));
         narrow_filter(t, hev, depth);
         return;
     }
-    if (size == 1) | !flat_mask2(t, one) {
+    if (size == 1) | !flat_mask2(a, one) {
         wide_filter_six(t);
         return;
     }

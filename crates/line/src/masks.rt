@@ -1,71 +1,120 @@
-// The tests of a line (8.8.5.2).
-ghost use Rattle.std.specs.Prelude.{◌≡◌, ◌&&◌, ◌+◌, ◌*◌, ◌/◌, ◌<◌, leb};
+// The tests of a line (8.8.5.2), over samples of 16 bits and over bytes. Tests are joined by `&`, which makes no branch, so that
+// a loop over lanes vectorises.
+ghost use Rattle.std.specs.Prelude.{◌≡◌, ◌&&◌, ◌+◌, ◌*◌, ◌/◌, ◌<◌, ℕ, leb, min};
 ghost use Rattle.base.specs.Notation.{abs_diff};
+ghost use Rattle.lane.specs.LaneSamples.{values_of};
 ghost use Rattle.line.specs.Masks.{hev_mask, filter_mask, flat_mask, flat_mask2};
 
-use wide_filter::taps::*;
+use lane::Lane;
 
-fn abs_diff(a: u16, b: u16) -> u32
-    ensures { (result ≡ abs_diff a b) × (result < 65536) }
-{
-    u32::from(a.abs_diff(b))
+// A sample, or a limit, as the tests take it.
+pub trait Sample: Copy {
+    ghost value: { Self → ℕ };
+
+    // The greatest.
+    ghost top: { ℕ };
+
+    fn distance(self, other: Self) -> Self
+        ensures { value result ≡ abs_diff (value self) (value other) };
+
+    fn at_most(self, limit: Self) -> bool
+        ensures { result ≡ leb (value self) (value limit) };
+
+    // The step across the edge, by the distances of its first two taps and of the next: it stops at the greatest number.
+    fn step(inner: Self, outer: Self) -> Self
+        ensures { value result ≡ min (value inner * 2 + value outer / 2) top };
 }
 
-fn near(limit: u32, a: u16, b: u16) -> bool
-    ensures { result ≡ leb (abs_diff a b) limit }
-{
-    abs_diff(a, b) <= limit
+impl Sample for u16 {
+    ghost value = { λ n. n };
+
+    ghost top = { 65535 };
+
+    fn distance(self, other: u16) -> u16 {
+        self.abs_diff(other)
+    }
+
+    fn at_most(self, limit: u16) -> bool {
+        self <= limit
+    }
+
+    fn step(inner: u16, outer: u16) -> u16 {
+        inner.saturating_add(inner).saturating_add(outer / 2)
+    }
 }
 
-// The step across the edge.
-fn small_step(blimit: u32, p1: u16, p0: u16, q0: u16, q1: u16) -> bool
-    ensures { result ≡ leb (abs_diff p0 q0 * 2 + abs_diff p1 q1 / 2) blimit }
-{
-    abs_diff(p0, q0) * 2 + abs_diff(p1, q1) / 2 <= blimit
+impl Sample for u8 {
+    ghost value = { λ n. n };
+
+    ghost top = { 255 };
+
+    fn distance(self, other: u8) -> u8 {
+        self.abs_diff(other)
+    }
+
+    fn at_most(self, limit: u8) -> bool {
+        self <= limit
+    }
+
+    fn step(inner: u8, outer: u8) -> u8 {
+        inner.saturating_add(inner).saturating_add(outer / 2)
+    }
 }
 
-#[tactic(auto, unfolding(crate::specs::Masks::hev_mask))]
-pub(crate) fn hev_mask(t: &[u16; 16], thresh: u32) -> bool
-    ensures { result ≡ hev_mask thresh t.now }
+// Whether two samples differ by no more than the limit.
+fn near<T: Sample>(limit: T, a: T, b: T) -> bool
+    ensures { result ≡ leb (abs_diff (T.value a) (T.value b)) (T.value limit) }
 {
-    (thresh < abs_diff(t[P1], t[P0])) | (thresh < abs_diff(t[Q1], t[Q0]))
+    a.distance(b).at_most(limit)
 }
 
-#[tactic(auto, unfolding(crate::specs::Masks::filter_mask))]
-pub(crate) fn filter_mask(t: &[u16; 16], limit: u32, blimit: u32) -> bool
-    ensures { result ≡ filter_mask limit blimit t.now }
+// A limit below the greatest number is passed by a step that stops there, as by the whole one.
+fn small_step<T: Sample>(blimit: T, p1: T, p0: T, q0: T, q1: T) -> bool
+    requires { T.value blimit < T.top }
+    ensures { result ≡ leb (abs_diff (T.value p0) (T.value q0) * 2 + abs_diff (T.value p1) (T.value q1) / 2) (T.value blimit) }
 {
-    near(limit, t[P3], t[P2])
-        & near(limit, t[P2], t[P1])
-        & near(limit, t[P1], t[P0])
-        & near(limit, t[Q1], t[Q0])
-        & near(limit, t[Q2], t[Q1])
-        & near(limit, t[Q3], t[Q2])
-        & small_step(blimit, t[P1], t[P0], t[Q0], t[Q1])
+    T::step(p0.distance(q0), p1.distance(q1)).at_most(blimit)
+}
+
+pub fn hev_mask<T: Sample>(a: Lane<T>, thresh: T) -> bool
+    ensures { result ≡ hev_mask (T.value thresh) (values_of T.value a) }
+{
+    !near(thresh, a.p1, a.p0) | !near(thresh, a.q1, a.q0)
+}
+
+pub fn filter_mask_unchecked<T: Sample>(a: Lane<T>, limit: T, blimit: T) -> bool
+    requires { T.value blimit < T.top }
+    ensures { result ≡ filter_mask (T.value limit) (T.value blimit) (values_of T.value a) }
+{
+    near(limit, a.p3, a.p2)
+        & near(limit, a.p2, a.p1)
+        & near(limit, a.p1, a.p0)
+        & near(limit, a.q1, a.q0)
+        & near(limit, a.q2, a.q1)
+        & near(limit, a.q3, a.q2)
+        & small_step(blimit, a.p1, a.p0, a.q0, a.q1)
 }
 
 // A tap of each side near the side's first.
-fn flat_at(one: u32, pk: u16, p0: u16, qk: u16, q0: u16) -> bool
-    ensures { result ≡ (leb (abs_diff pk p0) one && leb (abs_diff qk q0) one) }
+fn flat_at<T: Sample>(one: T, pk: T, p0: T, qk: T, q0: T) -> bool
+    ensures { result ≡ (leb (abs_diff (T.value pk) (T.value p0)) (T.value one) && leb (abs_diff (T.value qk) (T.value q0)) (T.value one)) }
 {
     near(one, pk, p0) & near(one, qk, q0)
 }
 
-#[tactic(auto, unfolding(crate::specs::Masks::flat_mask, crate::specs::Masks::flat_at))]
-pub(crate) fn flat_mask(t: &[u16; 16], one: u32) -> bool
-    ensures { result ≡ flat_mask one t.now }
+pub fn flat_mask<T: Sample>(a: Lane<T>, one: T) -> bool
+    ensures { result ≡ flat_mask (T.value one) (values_of T.value a) }
 {
-    flat_at(one, t[P1], t[P0], t[Q1], t[Q0])
-        & flat_at(one, t[P2], t[P0], t[Q2], t[Q0])
-        & flat_at(one, t[P3], t[P0], t[Q3], t[Q0])
+    flat_at(one, a.p1, a.p0, a.q1, a.q0)
+        & flat_at(one, a.p2, a.p0, a.q2, a.q0)
+        & flat_at(one, a.p3, a.p0, a.q3, a.q0)
 }
 
-#[tactic(auto, unfolding(crate::specs::Masks::flat_mask2, crate::specs::Masks::flat_at))]
-pub(crate) fn flat_mask2(t: &[u16; 16], one: u32) -> bool
-    ensures { result ≡ flat_mask2 one t.now }
+pub fn flat_mask2<T: Sample>(a: Lane<T>, one: T) -> bool
+    ensures { result ≡ flat_mask2 (T.value one) (values_of T.value a) }
 {
-    flat_at(one, t[P4], t[P0], t[Q4], t[Q0])
-        & flat_at(one, t[P5], t[P0], t[Q5], t[Q0])
-        & flat_at(one, t[P6], t[P0], t[Q6], t[Q0])
-        & flat_at(one, t[P7], t[P0], t[Q7], t[Q0])
+    flat_at(one, a.p4, a.p0, a.q4, a.q0)
+        & flat_at(one, a.p5, a.p0, a.q5, a.q0)
+        & flat_at(one, a.p6, a.p0, a.q6, a.q0)
+        & flat_at(one, a.p7, a.p0, a.q7, a.q0)
 }

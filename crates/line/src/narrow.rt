@@ -5,7 +5,7 @@ ghost use Rattle.base.specs.Notation.{asr_z, round2_z};
 ghost use Rattle.line.specs.NarrowFilter.{c, offset, signed, sample, narrow_filter};
 
 use base::depth::Depth;
-use wide_filter::taps::*;
+use lane::taps::*;
 
 // 0x80 << (depth - 8), half the range of a sample.
 fn offset(depth: Depth) -> i32

@@ -5,9 +5,7 @@ ghost use Rattle.std.specs.Prelude.{◌≡◌, ℕ, ◌+◌, ◌*◌, ◌/◌, �
 ghost use Rattle.wide_filter.specs.WideFilter.{wide_filter};
 ghost use Rattle.wide_filter.specs.WideSums.{AtMost, Side, p_taps, q_taps};
 
-pub mod taps;
-
-use taps::*;
+use lane::taps::*;
 
 // What the sums of one side are formed in: 16 of the samples, each at most `top`, and 8 fit it.
 pub trait Sum: Copy {

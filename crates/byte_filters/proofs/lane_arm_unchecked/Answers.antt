@@ -4,7 +4,7 @@ use lib.Dec.{leb}
 use Rattle.strength.specs.Strength.{strength_of}
 use Rattle.line.specs.Masks.{flat_mask, flat_mask2}
 use Rattle.byte_filters.specs.ByteArm.{arm_of}
-use Rattle.lane_filters.specs.LaneSamples.{samples_of}
+use Rattle.lane.specs.LaneSamples.{samples_of}
 use Rattle.byte_filters.proofs.lane_arm_unchecked.Goals as goal
 use Rattle.byte_filters.proofs.lane_arm_unchecked.Goals.{then-flat, else-flat, then-flat2, else-flat2}
 use Rattle.byte_filters.proofs.lane_arm_unchecked.Tie as tie

@@ -1,6 +1,6 @@
 use Rattle.std.proofs.Common.{◌≡◌, refl, sym, ◌∙◌, Bool, true, false, ℕ, List, arith, rules, of_calls}
 use Rattle.std.proofs.lemmas.List.{map-id}
-use Rattle.lane_filters.specs.LaneSamples.{Small}
+use Rattle.lane_filters.specs.Small.{Small}
 use Rattle.line.specs.SampleFiltering.{sample_filtering}
 use Rattle.line.specs.SampleFilteringLaws.{filters_large}
 use Rattle.lanes.specs.Lanes.{lane_of}

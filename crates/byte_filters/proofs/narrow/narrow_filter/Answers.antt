@@ -1,7 +1,7 @@
 use mathlib.Core.Path.{refl}
 use Rattle.base.specs.Depth.{supported}
 use Rattle.lane_filters.specs.RaisedFilterLaws.{narrow_high, narrow_low}
-use Rattle.lane_filters.specs.LaneSamples.{samples_of}
+use Rattle.lane.specs.LaneSamples.{samples_of}
 use Rattle.byte_filters.proofs.narrow.narrow_filter.Goals as goal
 
 pub returns-then-hev : goal.returns-then-hev

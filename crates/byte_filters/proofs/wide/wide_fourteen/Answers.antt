@@ -4,7 +4,7 @@ use Prim.Native.Nat.{ℕ, ◌<◌}
 use native.Mathlib.Omega.{arith}
 use mir.Syntax.{w8}
 use mir.Val.{Fits}
-use Rattle.lane_filters.specs.LaneSamples.{fourteen_of, samples_of, put_taps}
+use Rattle.lane.specs.LaneSamples.{fourteen_of, samples_of, put_taps}
 use Rattle.wide_filter.specs.Taps.{tap}
 use Rattle.wide_filter.specs.WideFilter.{wide_filter}
 use Rattle.wide_filter.specs.WideFilterLaws.{wide_below}

@@ -1,5 +1,5 @@
 use Rattle.std.proofs.Common.{arith}
-use Rattle.lane_filters.specs.LaneSamples.{samples_of}
+use Rattle.lane.specs.LaneSamples.{samples_of}
 use Rattle.lane_filters.specs.RaisedFilterLaws.{narrow_high, narrow_low}
 use Rattle.lane_filters.proofs.narrow.narrow_filter.Goals as goal
 

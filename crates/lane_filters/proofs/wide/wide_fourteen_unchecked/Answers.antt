@@ -2,7 +2,7 @@ use Rattle.std.proofs.Common.{arith}
 use Rattle.wide_filter.specs.Taps.{tap}
 use Rattle.wide_filter.proofs.WideSums.{wide_fourteen}
 use Rattle.lane_filters.proofs.SmallSides.{p_eight, q_eight}
-use Rattle.lane_filters.specs.LaneSamples.{samples_of}
+use Rattle.lane.specs.LaneSamples.{samples_of}
 use Rattle.lane_filters.proofs.wide.wide_fourteen_unchecked.Goals as goal
 
 pub side_unchecked-r-requires : goal.side_unchecked-r-requires

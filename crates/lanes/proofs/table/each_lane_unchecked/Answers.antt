@@ -1,5 +1,5 @@
 use Rattle.std.proofs.Common.{◌≡◌, ◌∙◌, ap, length, map, arith, refl}
-use Rattle.lane_filters.specs.LaneSamples.{values_of}
+use Rattle.lane.specs.LaneSamples.{values_of}
 use Rattle.lanes.specs.Lanes.{lane_of}
 use Rattle.lanes.specs.LanesLaws.{lanes_none, lane_values, lane_put, lane_rest, put-length}
 use Rattle.lanes.proofs.table.each_lane_unchecked.Goals as goal

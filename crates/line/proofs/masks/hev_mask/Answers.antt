@@ -2,7 +2,7 @@ use Rattle.std.proofs.Common.{◌≡◌, ⊎_elim, not, ltb, leb, ℕ, lt-ltb, l
 use Rattle.std.proofs.lemmas.Bool.{lt-leb, le-leb}
 use Rattle.base.specs.NotationLaws.{split}
 use Rattle.line.specs.Masks.{hev_mask}
-use Rattle.lane_filters.proofs.masks.hev_mask.Goals as goal
+use Rattle.line.proofs.masks.hev_mask.Goals as goal
 
 above : (d limit : ℕ) → not (leb d limit) ≡ ltb limit d
 above d limit =

@@ -1,5 +1,5 @@
 use Rattle.line.specs.Masks.{flat_at, flat_mask}
-use Rattle.lane_filters.proofs.masks.flat_mask.Goals as goal
+use Rattle.line.proofs.masks.flat_mask.Goals as goal
 
 pub returns : goal.returns
 unfolding flat_mask flat_at

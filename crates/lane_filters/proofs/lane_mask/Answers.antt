@@ -1,4 +1,4 @@
-use Rattle.lane_filters.proofs.lane_mask_unchecked.Goals as goal
+use Rattle.lane_filters.proofs.lane_mask.Goals as goal
 
 pub returns : goal.returns
 returns c =

@@ -1,9 +1,9 @@
 -- A lane: the 16 samples of a line by their names.
 -- Assumes nothing.
-use Rattle.std.specs.Prelude.{map, List, [], ◌∷◌, ℕ, ◌+◌, ◌<◌, set}
-use Rattle.lane_filters.specs.declared.Four.{Four}
-use Rattle.lane_filters.specs.declared.Six.{Six}
-use Rattle.lane_filters.specs.declared.Lane.{Lane}
+use Rattle.std.specs.Prelude.{map, List, [], ◌∷◌, ℕ, ◌+◌, set}
+use Rattle.lane.specs.declared.Four.{Four}
+use Rattle.lane.specs.declared.Six.{Six}
+use Rattle.lane.specs.declared.Lane.{Lane}
 
 -- the line, and the line by the value of each sample
 abbrev pub samples_of : {T : Type 0} → Lane T → List T
@@ -26,22 +26,3 @@ fourteen_of r = r.p6 ∷ r.p5 ∷ r.p4 ∷ r.p3 ∷ r.p2 ∷ r.p1 ∷ r.p0 ∷ r
 abbrev pub put_taps : (t : List ℕ) (k : ℕ) (vs : List ℕ) → List ℕ
 put_taps t k [] = t
 put_taps t k (v ∷ vs) = put_taps (set t k v) (k + 1) vs
-
--- 12 bits hold each sample
-pub record Small (a : Lane ℕ) : Type 0 where
-  pub p7 : a.p7 < 4096
-  pub p6 : a.p6 < 4096
-  pub p5 : a.p5 < 4096
-  pub p4 : a.p4 < 4096
-  pub p3 : a.p3 < 4096
-  pub p2 : a.p2 < 4096
-  pub p1 : a.p1 < 4096
-  pub p0 : a.p0 < 4096
-  pub q0 : a.q0 < 4096
-  pub q1 : a.q1 < 4096
-  pub q2 : a.q2 < 4096
-  pub q3 : a.q3 < 4096
-  pub q4 : a.q4 < 4096
-  pub q5 : a.q5 < 4096
-  pub q6 : a.q6 < 4096
-  pub q7 : a.q7 < 4096

@@ -1,5 +1,5 @@
 use Rattle.line.specs.Masks.{filter_mask}
-use Rattle.lane_filters.proofs.masks.filter_mask_unchecked.Goals as goal
+use Rattle.line.proofs.masks.filter_mask_unchecked.Goals as goal
 
 pub returns : goal.returns
 unfolding filter_mask

@@ -1,0 +1,100 @@
+// A line by the names of its samples, and the parts of it that a filter can change.
+#![tactic(auto)]
+
+ghost use Rattle.std.specs.Prelude.{◌≡◌};
+ghost use Rattle.lane.specs.LaneSamples.{samples_of};
+
+pub mod taps;
+
+use taps::*;
+
+// A line by the names of its samples.
+#[derive(Clone, Copy)]
+pub struct Lane<T> {
+    pub p7: T,
+    pub p6: T,
+    pub p5: T,
+    pub p4: T,
+    pub p3: T,
+    pub p2: T,
+    pub p1: T,
+    pub p0: T,
+    pub q0: T,
+    pub q1: T,
+    pub q2: T,
+    pub q3: T,
+    pub q4: T,
+    pub q5: T,
+    pub q6: T,
+    pub q7: T,
+}
+
+// The samples that the narrow filter can change, and those that the wide filter of six can.
+#[derive(Clone, Copy)]
+pub struct Four<T> {
+    pub p1: T,
+    pub p0: T,
+    pub q0: T,
+    pub q1: T,
+}
+
+#[derive(Clone, Copy)]
+pub struct Six<T> {
+    pub p2: T,
+    pub p1: T,
+    pub p0: T,
+    pub q0: T,
+    pub q1: T,
+    pub q2: T,
+}
+
+impl Lane<u16> {
+    pub fn of_line(t: &[u16; 16]) -> Lane<u16>
+        ensures { samples_of result ≡ t.now }
+    {
+        Lane {
+            p7: t[P7],
+            p6: t[P6],
+            p5: t[P5],
+            p4: t[P4],
+            p3: t[P3],
+            p2: t[P2],
+            p1: t[P1],
+            p0: t[P0],
+            q0: t[Q0],
+            q1: t[Q1],
+            q2: t[Q2],
+            q3: t[Q3],
+            q4: t[Q4],
+            q5: t[Q5],
+            q6: t[Q6],
+            q7: t[Q7],
+        }
+    }
+}
+
+impl<T: Copy> Lane<T> {
+    pub fn four(self) -> Four<T>
+        ensures { result ≡ record { p1 = self.p1; p0 = self.p0; q0 = self.q0; q1 = self.q1 } }
+    {
+        Four {
+            p1: self.p1,
+            p0: self.p0,
+            q0: self.q0,
+            q1: self.q1,
+        }
+    }
+
+    pub fn six(self) -> Six<T>
+        ensures { result ≡ record { p2 = self.p2; p1 = self.p1; p0 = self.p0; q0 = self.q0; q1 = self.q1; q2 = self.q2 } }
+    {
+        Six {
+            p2: self.p2,
+            p1: self.p1,
+            p0: self.p0,
+            q0: self.q0,
+            q1: self.q1,
+            q2: self.q2,
+        }
+    }
+}
