@@ -4,8 +4,8 @@ ghost use Rattle.lane.specs.LaneSamples.{samples_of, six_of, fourteen_of, put_ta
 ghost use Rattle.wide_filter.specs.Taps.{Within};
 ghost use Rattle.wide_filter.specs.WideFilter.{wide_filter};
 
-use lane_filters::wide::{wide_fourteen_unchecked, wide_six_unchecked};
 use lane::{Lane, Six};
+use wide_filter::{wide_fourteen_unchecked, wide_six_unchecked};
 
 fn wide(x: u8) -> u16
     ensures { (result ≡ x) × (result < 256) }
@@ -41,7 +41,7 @@ fn widened(a: Lane<u8>) -> Lane<u16>
 pub(crate) fn wide_six(a: Lane<u8>) -> Six<u8>
     ensures { put_taps (samples_of a) 5 (six_of result) ≡ wide_filter 3 (samples_of a) }
 {
-    let r = wide_six_unchecked(widened(a));
+    let r = wide_six_unchecked::<u16>(widened(a));
     Six {
         p2: r.p2 as u8,
         p1: r.p1 as u8,
@@ -55,7 +55,7 @@ pub(crate) fn wide_six(a: Lane<u8>) -> Six<u8>
 pub(crate) fn wide_fourteen(a: Lane<u8>) -> Lane<u8>
     ensures { put_taps (samples_of a) 1 (fourteen_of result) ≡ wide_filter 4 (samples_of a) }
 {
-    let r = wide_fourteen_unchecked(widened(a));
+    let r = wide_fourteen_unchecked::<u16>(widened(a));
     Lane {
         p7: a.p7,
         p6: r.p6 as u8,

@@ -9,13 +9,12 @@ ghost use Rattle.lane.specs.LaneSamples.{samples_of, four_of, six_of, fourteen_o
 ghost use Rattle.lane_filters.specs.Small.{Small};
 
 mod narrow;
-pub mod wide;
 
 use base::depth::Depth;
 use lane::{Four, Lane, Six};
 use line::masks::{filter_mask_unchecked, flat_mask, flat_mask2, hev_mask};
 use narrow::narrow_filter;
-use wide::{wide_fourteen_unchecked, wide_six_unchecked};
+use wide_filter::{wide_fourteen_unchecked, wide_six_unchecked};
 
 fn with_four(a: Lane<u16>, r: Four<u16>) -> Six<u16>
     ensures { put_taps (samples_of a) 5 (six_of result) ≡ put_taps (samples_of a) 6 (four_of r) }
@@ -90,7 +89,7 @@ pub fn lane_six_unchecked(a: Lane<u16>, depth: Depth, limit: u8, blimit: u8, thr
         let hev = hev_mask(a, depth.scaled(thresh));
         return with_four(a, narrow_filter(a, hev, depth));
     }
-    wide_six_unchecked(a)
+    wide_six_unchecked::<u16>(a)
 }
 
 pub fn lane_fourteen_unchecked(
@@ -111,7 +110,7 @@ pub fn lane_fourteen_unchecked(
         return with_six(a, with_four(a, narrow_filter(a, hev, depth)));
     }
     if !flat_mask2(a, depth.scaled(1)) {
-        return with_six(a, wide_six_unchecked(a));
+        return with_six(a, wide_six_unchecked::<u16>(a));
     }
-    wide_fourteen_unchecked(a)
+    wide_fourteen_unchecked::<u16>(a)
 }

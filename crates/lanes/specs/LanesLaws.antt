@@ -140,24 +140,6 @@ pub lane_samples : {a : Lane ℕ} (t : List ℕ) (l : ℕ) → a ≡ lane_at t l
 unfolding lane_of
 lane_samples t l is = ap samples_of is
 
-pub small_at : (t : List ℕ) (l : ℕ) → l < 16 → Table t → Small (lane_at t l)
-small_at t l h s =
-    record { p7 = s.small l (omega arith); p6 = s.small (16 + l) (omega arith); p5 = s.small (32 + l) (omega arith); p4 = s.small (48 + l) (omega arith); p3 = s.small (64 + l) (omega arith); p2 = s.small (80 + l) (omega arith); p1 = s.small (96 + l) (omega arith); p0 = s.small (112 + l) (omega arith); q0 = s.small (128 + l) (omega arith); q1 = s.small (144 + l) (omega arith); q2 = s.small (160 + l) (omega arith); q3 = s.small (176 + l) (omega arith); q4 = s.small (192 + l) (omega arith); q5 = s.small (208 + l) (omega arith); q6 = s.small (224 + l) (omega arith); q7 = s.small (240 + l) (omega arith) }
-
--- the lane that a line's samples name
-named : List ℕ → Lane ℕ
-named t =
-    record { p7 = tap t 0; p6 = tap t 1; p5 = tap t 2; p4 = tap t 3; p3 = tap t 4; p2 = tap t 5; p1 = tap t 6; p0 = tap t 7; q0 = tap t 8; q1 = tap t 9; q2 = tap t 10; q3 = tap t 11; q4 = tap t 12; q5 = tap t 13; q6 = tap t 14; q7 = tap t 15 }
-
-named_lane : (t : List ℕ) (l : ℕ) → lane_at t l ≡ named (lane_of t l)
-unfolding lane_of named
-named_lane t l = refl
-
--- a lane that is not done yet has the samples that it had
-pub small_in : {m : ℕ} {f : ℕ → List ℕ → List ℕ} {t u : List ℕ} → m < 16 → Table t → EachLaneTo m f t u → Small (lane_at u m)
-small_in {m} {f} {t} {u} h s inv =
-    rw (named_lane u m, inv.rest m (omega arith) h, ← named_lane t m) (small_at t m h s)
-
 -- ---- lanes whose mask is off
 
 module _ (n depth limit blimit : ℕ) where
@@ -212,8 +194,7 @@ module _ {T : Type 0} (value : T → ℕ) where
 
 -- a lane of a table of 12 bits is small
 pub small_lane : (t : List ℕ) (l : ℕ) (a : Lane ℕ) → l < 16 → Table t → samples_of a ≡ lane_of (map (λ n. n) t) l → Small a
-small_lane t l a h s is =
-    record { p7 = at 0 (omega arith); p6 = at 1 (omega arith); p5 = at 2 (omega arith); p4 = at 3 (omega arith); p3 = at 4 (omega arith); p2 = at 5 (omega arith); p1 = at 6 (omega arith); p0 = at 7 (omega arith); q0 = at 8 (omega arith); q1 = at 9 (omega arith); q2 = at 10 (omega arith); q3 = at 11 (omega arith); q4 = at 12 (omega arith); q5 = at 13 (omega arith); q6 = at 14 (omega arith); q7 = at 15 (omega arith) }
+small_lane t l a h s is = record { below = at }
   where
     at : (k : ℕ) → k < 16 → tap (samples_of a) k < 4096
     at k b =

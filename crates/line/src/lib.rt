@@ -11,6 +11,7 @@ ghost use Rattle.line.specs.Line.{reaches, line};
 
 pub mod masks;
 mod narrow;
+mod stored;
 
 use base::depth::Depth;
 use base::fault::Fault;
@@ -18,7 +19,8 @@ use base::search::first_place;
 use lane::Lane;
 use masks::{filter_mask_unchecked, flat_mask, flat_mask2, hev_mask};
 use narrow::narrow_filter;
-use wide_filter::{wide_filter_fourteen, wide_filter_six};
+use stored::{store_fourteen, store_six};
+use wide_filter::{wide_fourteen_unchecked, wide_six_unchecked};
 
 // The work without the tests, for a caller that has made them.
 #[tactic(auto, unfolding(crate::specs::SampleFiltering::sample_filtering))]
@@ -43,10 +45,10 @@ pub fn sample_filtering_unchecked(
         return;
     }
     if (size == 1) | !flat_mask2(a, one) {
-        wide_filter_six(t);
+        store_six(t, wide_six_unchecked::<u32>(a));
         return;
     }
-    wide_filter_fourteen(t);
+    store_fourteen(t, wide_fourteen_unchecked::<u32>(a));
 }
 
 // The first tap whose sample is not below the bound.

@@ -1,3 +1,4 @@
 pub mod WideSums
 pub mod SideSums
 pub mod WideFilterStandard
+pub mod Sides

@@ -15,13 +15,6 @@ sum x (suc m) = sum x m + tap x (suc m)
 abbrev pub side : ℕ → List ℕ → List ℕ → ℕ → ℕ
 side n x y i = (tap x n * (i + 1) + (sum x (n - 1) + (n + 1)) + tap x i + sum y (n - 1 - i)) / (2 * (n + 1))
 
--- the samples of each side, counted from the edge
-abbrev pub p_taps : List ℕ → List ℕ
-p_taps t = p t 0 ∷ p t 1 ∷ p t 2 ∷ p t 3 ∷ p t 4 ∷ p t 5 ∷ p t 6 ∷ p t 7 ∷ []
-
-abbrev pub q_taps : List ℕ → List ℕ
-q_taps t = q t 0 ∷ q t 1 ∷ q t 2 ∷ q t 3 ∷ q t 4 ∷ q t 5 ∷ q t 6 ∷ q t 7 ∷ []
-
 -- each number of a list is at most b
 pub record AtMost (b : ℕ) (x : List ℕ) : Type 0 where
   pub most : (k : ℕ) → tap x k ≤ b

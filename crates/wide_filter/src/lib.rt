@@ -2,10 +2,12 @@
 #![tactic(auto)]
 
 ghost use Rattle.std.specs.Prelude.{◌≡◌, ℕ, ◌+◌, ◌*◌, ◌/◌, ◌<◌, ◌≤◌};
+ghost use Rattle.lane.specs.LaneSamples.{samples_of, six_of, fourteen_of, put_taps};
+ghost use Rattle.wide_filter.specs.Taps.{Within};
 ghost use Rattle.wide_filter.specs.WideFilter.{wide_filter};
-ghost use Rattle.wide_filter.specs.WideSums.{AtMost, Side, p_taps, q_taps};
+ghost use Rattle.wide_filter.specs.WideSums.{AtMost, Side};
 
-use lane::taps::*;
+use lane::{Lane, Six};
 
 // What the sums of one side are formed in: 16 of the samples, each at most `top`, and 8 fit it.
 pub trait Sum: Copy {
@@ -100,56 +102,49 @@ pub fn side_unchecked<S: Sum, const M: usize>(x: [u16; M], y: [u16; M]) -> [u16;
 }
 
 // The six samples around the edge.
-pub fn wide_filter_six(t: &mut [u16; 16])
-    ensures { t.new ≡ wide_filter 3 t.old }
+pub fn wide_six_unchecked<S: Sum>(a: Lane<u16>) -> Six<u16>
+    requires { Within (S.top + 1) (samples_of a) }
+    ensures { put_taps (samples_of a) 5 (six_of result) ≡ wide_filter 3 (samples_of a) }
 {
-    let p = [t[P0], t[P1], t[P2], t[P3]];
-    let q = [t[Q0], t[Q1], t[Q2], t[Q3]];
-    let a = side_unchecked::<u32, 4>(p, q);
-    let b = side_unchecked::<u32, 4>(q, p);
-    t[P2] = a[2];
-    t[P1] = a[1];
-    t[P0] = a[0];
-    t[Q0] = b[0];
-    t[Q1] = b[1];
-    t[Q2] = b[2];
-}
-
-// The samples of a side, counted from the edge. A function for each: the check knows twelve reads of one function to be
-// in range, not sixteen.
-
-fn p_side(t: &[u16; 16]) -> [u16; 8]
-    ensures { (result ≡ p_taps t.now) × AtMost 65535 result }
-{
-    [t[P0], t[P1], t[P2], t[P3], t[P4], t[P5], t[P6], t[P7]]
-}
-
-fn q_side(t: &[u16; 16]) -> [u16; 8]
-    ensures { (result ≡ q_taps t.now) × AtMost 65535 result }
-{
-    [t[Q0], t[Q1], t[Q2], t[Q3], t[Q4], t[Q5], t[Q6], t[Q7]]
+    let p = [a.p0, a.p1, a.p2, a.p3];
+    let q = [a.q0, a.q1, a.q2, a.q3];
+    let r = side_unchecked::<S, 4>(p, q);
+    let s = side_unchecked::<S, 4>(q, p);
+    Six {
+        p2: r[2],
+        p1: r[1],
+        p0: r[0],
+        q0: s[0],
+        q1: s[1],
+        q2: s[2],
+    }
 }
 
 // The fourteen samples around the edge.
-pub fn wide_filter_fourteen(t: &mut [u16; 16])
-    ensures { t.new ≡ wide_filter 4 t.old }
+pub fn wide_fourteen_unchecked<S: Sum>(a: Lane<u16>) -> Lane<u16>
+    requires { Within (S.top + 1) (samples_of a) }
+    ensures { put_taps (samples_of a) 1 (fourteen_of result) ≡ wide_filter 4 (samples_of a) }
 {
-    let p = p_side(t);
-    let q = q_side(t);
-    let a = side_unchecked::<u32, 8>(p, q);
-    let b = side_unchecked::<u32, 8>(q, p);
-    t[P6] = a[6];
-    t[P5] = a[5];
-    t[P4] = a[4];
-    t[P3] = a[3];
-    t[P2] = a[2];
-    t[P1] = a[1];
-    t[P0] = a[0];
-    t[Q0] = b[0];
-    t[Q1] = b[1];
-    t[Q2] = b[2];
-    t[Q3] = b[3];
-    t[Q4] = b[4];
-    t[Q5] = b[5];
-    t[Q6] = b[6];
+    let p = [a.p0, a.p1, a.p2, a.p3, a.p4, a.p5, a.p6, a.p7];
+    let q = [a.q0, a.q1, a.q2, a.q3, a.q4, a.q5, a.q6, a.q7];
+    let r = side_unchecked::<S, 8>(p, q);
+    let s = side_unchecked::<S, 8>(q, p);
+    Lane {
+        p7: a.p7,
+        p6: r[6],
+        p5: r[5],
+        p4: r[4],
+        p3: r[3],
+        p2: r[2],
+        p1: r[1],
+        p0: r[0],
+        q0: s[0],
+        q1: s[1],
+        q2: s[2],
+        q3: s[3],
+        q4: s[4],
+        q5: s[5],
+        q6: s[6],
+        q7: a.q7,
+    }
 }

@@ -1,5 +1,8 @@
-use Rattle.std.proofs.Common.{◌≡◌, sym, ◌∙◌}
+use Rattle.std.proofs.Common.{◌≡◌, ◌∙◌, subst, List, ℕ, arith}
+use Rattle.lane.specs.LaneSamples.{samples_of, six_of, fourteen_of, put_taps}
 use Rattle.line.specs.SampleFilteringLaws.{filters_narrow, filters-six, filters-fourteen}
+use Rattle.wide_filter.specs.Taps.{Within}
+use Rattle.wide_filter.specs.WideFilter.{wide_filter}
 use Rattle.line.proofs.sample_filtering_unchecked.Goals as goal
 
 pub returns-then-size-flat_mask : goal.returns-then-size-flat_mask
@@ -13,7 +16,8 @@ returns-then-size-flat_mask c =
 pub returns-then-size-flat_mask2 : goal.returns-then-size-flat_mask2
 returns-then-size-flat_mask2 c =
     let a = c.args in
-    c.wide_filter_six.ensures
+    c.store_six.ensures
+    ∙ subst (λ (t : List ℕ). put_taps t 5 (six_of c.wide_six_unchecked.result) ≡ wide_filter 3 t) c.of_line-a.ensures c.wide_six_unchecked.ensures
     ∙ filters-six a.depth.bits a.size a.limit a.blimit a.thresh a.t.now
     (rw (c.filter_mask_unchecked.ensures, c.of_line-a.ensures, c.scaled.ensures.0, c.scaled-2.ensures.0) at c.if-not-filter_mask_unchecked.false)
     (rw (c.flat_mask.ensures, c.of_line-a.ensures, c.scaled-one.ensures.0) at c.if-size-flat_mask.false)
@@ -22,8 +26,15 @@ returns-then-size-flat_mask2 c =
 pub returns : goal.returns
 returns c =
     let a = c.args in
-    c.wide_filter_fourteen.ensures
+    c.store_fourteen.ensures
+    ∙ subst (λ (t : List ℕ). put_taps t 1 (fourteen_of c.wide_fourteen_unchecked.result) ≡ wide_filter 4 t) c.of_line-a.ensures c.wide_fourteen_unchecked.ensures
     ∙ filters-fourteen a.depth.bits a.size a.limit a.blimit a.thresh a.t.now
     (rw (c.filter_mask_unchecked.ensures, c.of_line-a.ensures, c.scaled.ensures.0, c.scaled-2.ensures.0) at c.if-not-filter_mask_unchecked.false)
     (rw (c.flat_mask.ensures, c.of_line-a.ensures, c.scaled-one.ensures.0) at c.if-size-flat_mask.false)
     (rw (c.flat_mask2.ensures, c.of_line-a.ensures, c.scaled-one.ensures.0) at c.if-size-flat_mask2.false)
+
+pub wide_six_unchecked-requires : goal.wide_six_unchecked-requires
+wide_six_unchecked-requires c = rw c.of_line-a.ensures (record { below = λ k h. omega (arith, c.fits-t) })
+
+pub wide_fourteen_unchecked-requires : goal.wide_fourteen_unchecked-requires
+wide_fourteen_unchecked-requires c = rw c.of_line-a.ensures (record { below = λ k h. omega (arith, c.fits-t) })

@@ -28,7 +28,7 @@ returns c =
 
 pub wide_fourteen_unchecked-r-requires : goal.wide_fourteen_unchecked-r-requires
 wide_fourteen_unchecked-r-requires c =
-    bytes_small _ c.widened.ensures.1
+    bytes_small c.widened.ensures.1
 
 pub overflow_cast-result : goal.overflow_cast-result
 overflow_cast-result c =

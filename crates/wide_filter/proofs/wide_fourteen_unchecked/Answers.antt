@@ -1,24 +1,24 @@
 use Rattle.std.proofs.Common.{arith}
 use Rattle.wide_filter.specs.Taps.{tap}
 use Rattle.wide_filter.proofs.WideSums.{wide_fourteen}
-use Rattle.lane_filters.proofs.SmallSides.{p_eight, q_eight}
+use Rattle.wide_filter.proofs.Sides.{p_eight, q_eight}
 use Rattle.lane.specs.LaneSamples.{samples_of}
-use Rattle.lane_filters.proofs.wide.wide_fourteen_unchecked.Goals as goal
+use Rattle.wide_filter.proofs.wide_fourteen_unchecked.Goals as goal
 
 pub side_unchecked-r-requires : goal.side_unchecked-r-requires
-side_unchecked-r-requires c =
+side_unchecked-r-requires g c =
     let a = c.args.a in
-    let s = c.requires in
-    (omega arith, ((omega arith, omega arith), (p_eight a s, q_eight a s)))
+    let b = g.S.Sum.top in
+    (omega arith, ((omega arith, omega arith), (p_eight b a c.requires, q_eight b a c.requires)))
 
 pub side_unchecked-s-requires : goal.side_unchecked-s-requires
-side_unchecked-s-requires c =
+side_unchecked-s-requires g c =
     let a = c.args.a in
-    let s = c.requires in
-    (omega arith, ((omega arith, omega arith), (q_eight a s, p_eight a s)))
+    let b = g.S.Sum.top in
+    (omega arith, ((omega arith, omega arith), (q_eight b a c.requires, p_eight b a c.requires)))
 
 pub returns : goal.returns
-returns c =
+returns g c =
     let r = c.side_unchecked-r.result in
     let s = c.side_unchecked-s.result in
     let a = c.side_unchecked-r.ensures in

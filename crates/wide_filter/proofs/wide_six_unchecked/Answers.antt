@@ -1,24 +1,24 @@
 use Rattle.std.proofs.Common.{arith}
 use Rattle.wide_filter.specs.Taps.{tap}
 use Rattle.wide_filter.proofs.WideSums.{wide_six}
-use Rattle.lane_filters.proofs.SmallSides.{p_four, q_four}
+use Rattle.wide_filter.proofs.Sides.{p_four, q_four}
 use Rattle.lane.specs.LaneSamples.{samples_of}
-use Rattle.lane_filters.proofs.wide.wide_six_unchecked.Goals as goal
+use Rattle.wide_filter.proofs.wide_six_unchecked.Goals as goal
 
 pub side_unchecked-r-requires : goal.side_unchecked-r-requires
-side_unchecked-r-requires c =
+side_unchecked-r-requires g c =
     let a = c.args.a in
-    let s = c.requires in
-    (omega arith, ((omega arith, omega arith), (p_four a s, q_four a s)))
+    let b = g.S.Sum.top in
+    (omega arith, ((omega arith, omega arith), (p_four b a c.requires, q_four b a c.requires)))
 
 pub side_unchecked-s-requires : goal.side_unchecked-s-requires
-side_unchecked-s-requires c =
+side_unchecked-s-requires g c =
     let a = c.args.a in
-    let s = c.requires in
-    (omega arith, ((omega arith, omega arith), (q_four a s, p_four a s)))
+    let b = g.S.Sum.top in
+    (omega arith, ((omega arith, omega arith), (q_four b a c.requires, p_four b a c.requires)))
 
 pub returns : goal.returns
-returns c =
+returns g c =
     let r = c.side_unchecked-r.result in
     let s = c.side_unchecked-s.result in
     let a = c.side_unchecked-r.ensures in
