@@ -11,9 +11,9 @@ ghost use Rattle.word_bytes.specs.WordBytes.{words_of};
 
 pub mod unchecked;
 
-use byte_pass::superblock_loop_filter_bytes;
 use c_border::{Refusal, refusal_of};
 use geometry::pass_numbers::PassNumbers;
+use superblock_pass::superblock_loop_filter_cells;
 use window::WindowShape;
 
 // As springspade_pass over bytes, the words of the cells too.
@@ -55,5 +55,5 @@ pub fn springspade_pass_bytes(
         plane,
         pass,
     };
-    refusal_of(superblock_loop_filter_bytes(samples, g, cells, n))
+    refusal_of(superblock_loop_filter_cells(samples, g, cells, n))
 }

@@ -6,10 +6,13 @@ ghost use Rattle.decided.specs.Decided.{setting_of};
 ghost use Rattle.pass.specs.Pass.{superblock_loop_filter, superblock_loop_filter_cells};
 ghost use Rattle.pass_edges.specs.PassEdges.{pass_of};
 
-use byte_pass::superblock_loop_filter_bytes_unchecked;
+use base::depth::Depth;
+use base::sharpness::Sharpness;
 use decided::superblock_of;
 use geometry::pass_numbers::PassNumbers;
 use pass_edges::pass_of;
+use positions::PlacedSuperblock;
+use superblock_pass::superblock_loop_filter_unchecked;
 use window::WindowShape;
 
 // As springspade_pass_bytes, without its tests and without an answer, and with cells as springspade_row packs them.
@@ -52,13 +55,14 @@ pub fn springspade_pass_bytes_unchecked(
         pass,
     };
     let s = superblock_of(n);
-    superblock_loop_filter_bytes_unchecked(
+    superblock_loop_filter_unchecked(
         samples,
         g,
         cells,
-        s,
+        PlacedSuperblock { of: s },
         pass_of(pass),
         0 < plane,
-        sharpness,
+        Sharpness { level: sharpness },
+        Depth { bits: 8 },
     );
 }

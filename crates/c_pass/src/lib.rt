@@ -12,7 +12,7 @@ pub mod unchecked;
 
 use c_border::{Refusal, refusal_of};
 use geometry::pass_numbers::PassNumbers;
-use pass::superblock_loop_filter_cells;
+use superblock_pass::superblock_loop_filter_cells;
 use window::WindowShape;
 
 // Filters the superblock at mi_row, mi_col of a plane in place: vertical edges (pass 0) or horizontal ones (pass 1).

@@ -6,10 +6,13 @@ ghost use Rattle.decided.specs.Decided.{setting_of};
 ghost use Rattle.pass.specs.Pass.{superblock_loop_filter, superblock_loop_filter_cells};
 ghost use Rattle.pass_edges.specs.PassEdges.{pass_of};
 
+use base::depth::Depth;
+use base::sharpness::Sharpness;
 use decided::superblock_of;
 use geometry::pass_numbers::PassNumbers;
-use pass::superblock_loop_filter_unchecked;
 use pass_edges::pass_of;
+use positions::PlacedSuperblock;
+use superblock_pass::superblock_loop_filter_unchecked;
 use window::WindowShape;
 
 // As springspade_pass, without its tests and without an answer.
@@ -57,10 +60,10 @@ pub fn springspade_pass_unchecked(
         samples,
         g,
         cells,
-        s,
+        PlacedSuperblock { of: s },
         pass_of(pass),
         0 < plane,
-        sharpness,
-        bit_depth,
+        Sharpness { level: sharpness },
+        Depth { bits: bit_depth },
     );
 }

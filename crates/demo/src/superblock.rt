@@ -4,7 +4,7 @@ use crate::step::print_samples;
 use anyhow::Result;
 use base::fault::Fault;
 use geometry::pass_numbers::PassNumbers;
-use pass::superblock_loop_filter_cells;
+use superblock_pass::superblock_loop_filter_cells;
 use std::array;
 use window::WindowShape;
 

@@ -21,7 +21,7 @@ byte_lists_refused g s cells lent after =
     after)
 
 module _ (g : WindowShape) (depth : ℕ) (samples : List ℕ) (d : admits Byte depth ≡ true) (r : Ranged Byte samples) where
-  bytes_good : found (bad_sample g (2 ^ depth) samples) (g.height * g.width) ≡ false
+  pub bytes_good : found (bad_sample g (2 ^ depth) samples) (g.height * g.width) ≡ false
   unfolding bad_sample
   bytes_good = found_none _ _ (λ k h. lt-leb (2 ^ depth) _ (byte_range depth d r _))
 

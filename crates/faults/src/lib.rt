@@ -1,28 +1,25 @@
 // The tests of a pass, in the order of their numbers.
 #![tactic(auto)]
 
-ghost use Rattle.std.specs.Prelude.{◌≡◌, true, List, ℕ, ◌^◌, ◌≤◌, length};
-ghost use Rattle.base.specs.Depth.{supported};
+ghost use Rattle.std.specs.Prelude.{◌≡◌, true, List, ℕ, ◌≤◌, length};
+ghost use Rattle.base.specs.Width.{admits};
 ghost use Rattle.base.specs.Fault.{afterwards};
 ghost use Rattle.base.specs.Outcome.{Outcome};
-ghost use Rattle.positions.specs.Positions.{Placed};
 ghost use Rattle.geometry.specs.Frame.{cells_from};
 ghost use Rattle.faults.specs.Faults.{numbers_refused};
 ghost use Rattle.faults.specs.FaultsLaws.{lent_refused};
 
+pub mod sample;
+
 use bad_words::first_bad_word_unchecked;
+use base::depth::Depth;
 use base::fault::Fault;
 use geometry::pass_numbers::PassNumbers;
-use geometry::{Superblock, bad_frame_size, bad_start, bad_subsampling, cell_count_unchecked};
-use window::{WindowShape, bad_window, first_bad_sample_unchecked};
-
-// 2 to the depth.
-fn sample_bound(depth: u8) -> u16
-    requires { supported depth ≡ true }
-    ensures { result ≡ 2 ^ depth }
-{
-    1u16 << depth
-}
+use geometry::{bad_frame_size, bad_start, bad_subsampling, cell_count_unchecked};
+use positions::PlacedSuperblock;
+use sample::PlaneSample;
+use window::{WindowShape, bad_window};
+use word_bytes::Words;
 
 // Refusals 1 to 10, of a row with so many cells lent. Whether the depth is known is the matter of the samples' width.
 pub fn number_faults(n: PassNumbers, known: bool, lent: usize) -> Result<(), Fault>
@@ -56,24 +53,24 @@ pub fn number_faults(n: PassNumbers, known: bool, lent: usize) -> Result<(), Fau
 }
 
 // Refusals 11 to 13, once the numbers are tested. Refusal 14 is left to those who decide.
-pub fn list_faults_unchecked(
-    samples: &[u16],
+pub fn list_faults_unchecked<S: PlaneSample, C: Words>(
+    samples: &[S],
     g: WindowShape,
-    cells: &[u32],
-    s: Superblock,
-    depth: u8,
+    cells: C,
+    s: PlacedSuperblock,
+    depth: Depth,
 ) -> Result<(), Fault>
-    requires { Placed s × (cells_from s.row s.cols s.rows ≤ length cells.now) × (supported depth ≡ true) }
-    ensures { (after : Outcome (List ℕ)) → lent_refused g s depth cells.now samples.now after ≡ afterwards result after }
+    requires { (cells_from s.of.row s.of.cols s.of.rows ≤ length (C.words cells)) × (admits S.width depth.bits ≡ true) }
+    ensures { (after : Outcome (List ℕ)) → lent_refused g s.of depth.bits (C.words cells) (S.values samples.now) after ≡ afterwards result after }
 {
-    let count = cell_count_unchecked(s.row, s.cols, s.rows);
+    let count = cell_count_unchecked(s.of.row, s.of.cols, s.of.rows);
     if let Some(k) = first_bad_word_unchecked(cells, count) {
         return Err(Fault::Cell(k));
     }
     if bad_window(g, samples.len()) {
         return Err(Fault::Window);
     }
-    if let Some(k) = first_bad_sample_unchecked(samples, g, sample_bound(depth)) {
+    if let Some(k) = S::first_bad_unchecked(samples, g, depth) {
         return Err(Fault::Sample(k));
     }
     Ok(())

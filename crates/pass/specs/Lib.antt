@@ -9,3 +9,4 @@ pub mod PassRange
 pub mod PassFront
 pub mod Cases
 pub mod PassWidths
+pub mod ByKeys

@@ -8,7 +8,7 @@ ghost use Rattle.plane_window.specs.PlaneWindow.{pass_over};
 
 use base::fault::Fault;
 use geometry::pass_numbers::PassNumbers;
-use pass::superblock_loop_filter_cells;
+use superblock_pass::superblock_loop_filter_cells;
 use window::WindowShape;
 
 // The samples that are lent, and where the window lies in them and in its plane.

@@ -12,7 +12,7 @@ ghost use Rattle.record_pass.specs.RecordPass.{record_word, pass_records};
 use base::fault::Fault;
 use cell_records::{CellRecord, word_of};
 use geometry::pass_numbers::PassNumbers;
-use pass::superblock_loop_filter_cells;
+use superblock_pass::superblock_loop_filter_cells;
 use window::WindowShape;
 
 // One record is stored as its word; nothing is stored past the end.

@@ -2,7 +2,7 @@
 use crate::numbers::{is_answer, size32_at};
 use crate::pass_record::{numbers_of, window_of};
 use base::fault::Fault;
-use byte_pass::superblock_loop_filter_bytes;
+use superblock_pass::superblock_loop_filter_cells;
 
 // A record has room for so many bytes of cells, from byte 40 on, and of samples before, from byte 168 on. Behind those
 // are as many after.
@@ -12,7 +12,7 @@ const SAMPLES: usize = 640;
 
 fn pass_answer(record: &[u8; 1448], samples: &mut [u8]) -> Result<(), Fault> {
     let cells = usize::from(record[7]).min(CELL_BYTES);
-    superblock_loop_filter_bytes(
+    superblock_loop_filter_cells(
         samples,
         window_of(record),
         &record[40..40 + cells],
