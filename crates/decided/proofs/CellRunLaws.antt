@@ -3,9 +3,7 @@
 use Rattle.std.specs.Prelude.{◌≡◌, Bool, true, false, cond}
 use Rattle.std.proofs.Math.Path.{refl, sym}
 use Rattle.std.proofs.Common.{◌∙◌}
-use mathlib.Core.List.Memᴰ
 use mathlib.Core.List.{List, [], ◌∷◌, ◌++◌, Memᴰ}
-use Prim.Native.Nat.{◌+◌}
 use Rattle.geometry.specs.declared.Pass.{Pass}
 use Rattle.order.specs.Grid.{keep_if, select, select_append}
 use Rattle.decided.specs.Decided.{Setting}

@@ -2,4 +2,4 @@ pub mod KeptLaws
 pub mod KeyRunLaws
 pub mod CellRunLaws
 pub mod RunsLaws
-pub mod CellWalk
+pub mod AllRuns

@@ -4,4 +4,5 @@ pub mod JoinLaws
 pub mod CellRunLaws
 pub mod RunsLaws
 pub mod KeyRuns
-pub mod CellWalk
+pub mod CellsLeft
+pub mod RunsLeft

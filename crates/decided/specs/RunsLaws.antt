@@ -12,12 +12,12 @@ use Rattle.decisions.specs.DecisionLaws.{decision_size, decision_level}
 use Rattle.decisions.specs.declared.Decision.{Decision}
 use Rattle.geometry.specs.declared.Pass.{Pass}
 use Rattle.geometry.specs.declared.Superblock.{Superblock}
-use Rattle.order.specs.Grid.{select, select_mem, select_passes, select-length, grid}
+use Rattle.order.specs.Grid.{select_mem, select_passes, select-length}
 use Rattle.order.proofs.Grid.{grid-length}
 use Rattle.pass_edges.specs.PassEdges.{along_sub, cell_start, edge_count, edge_len}
 use Rattle.pass_edges.specs.PassEdgesLaws.{edge_count_small, edge_len_small, cell_first}
 use Rattle.geometry.specs.CoordinatesLaws.{shr_small}
-use Rattle.decided.specs.Decided.{position, Setting, decision_at, decided, filters}
+use Rattle.decided.specs.Decided.{position, Setting, decision_at, filters}
 use Rattle.decided.specs.Runs.{level_of, cell_run, longer, joined, run_filters, runs}
 use Rattle.decided.specs.JoinLaws.{Joins, Behind, joined_length}
 use Rattle.decided.specs.CellRunLaws.{cell_at, cells_of, joined_cells, whole_cells, whole_room}

@@ -8,9 +8,13 @@ ghost use Rattle.decided.specs.Runs.{joins, longer};
 ghost use Rattle.decided.specs.RunsLaws.{Small};
 ghost use Rattle.pass_edges.specs.PassEdges.{edge_count};
 
+mod key_cells;
+mod pass_runs;
+
 use geometry::pass_numbers::PassNumbers;
 use geometry::{Pass, Superblock};
 use pass_edges::along;
+pub use pass_runs::PassRuns;
 
 // The superblock of a plane, of numbers that are tested: plane 0 counts as not subsampled.
 pub fn superblock_of(n: PassNumbers) -> Superblock

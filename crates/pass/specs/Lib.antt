@@ -1,6 +1,5 @@
 pub mod Pass
 pub mod WorkLaws
-pub mod WalkLaws
 pub mod Chunks
 pub mod ChunkLaws
 pub mod PassLaws

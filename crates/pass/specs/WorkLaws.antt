@@ -2,9 +2,9 @@
 -- Assumes nothing.
 use Rattle.std.specs.Prelude.{◌≡◌, Bool, false, cond}
 use Rattle.std.proofs.Math.Path.{refl, sym, ap}
-use Rattle.std.proofs.Common.{◌∙◌, add-one, arith, lt-ltb, le-ltb, ltb-false}
+use Rattle.std.proofs.Common.{◌∙◌, add-one, arith, lt-ltb}
 use Rattle.std.proofs.Math.Bool.{true}
-use mathlib.Core.List.{List, [], ◌∷◌, ◌++◌, Memᴰ}
+use mathlib.Core.List.{List, [], ◌∷◌, Memᴰ}
 use Prim.Native.Nat.{ℕ, zero, suc, ◌+◌, ◌^◌, ◌≤◌, ◌<◌}
 use Rattle.std.proofs.Math.ListN.{length}
 use Rattle.base.specs.Depth.{supported, depth_scaled}
@@ -22,7 +22,7 @@ use Rattle.geometry.specs.declared.Superblock.{Superblock}
 use Rattle.keys.specs.Keys.{keys_of}
 use Rattle.line.specs.SampleFiltering.{sample_filtering}
 use Rattle.line.specs.SampleFilteringLaws.{filters_within}
-use Rattle.order.specs.Grid.{select, strip, mem_strip}
+use Rattle.order.specs.Grid.{strip, mem_strip}
 use Rattle.order.specs.Order.{run}
 use Rattle.order.specs.Walk.{run_append, run_strip_next, run_idle}
 use Rattle.positions.specs.Positions.{Placed, plane_x, plane_y}
@@ -92,10 +92,6 @@ unfolding run_filtered
 filtered_on g s pass sharpness depth a level x y st ex ey es samples result h =
     h ∙ (λ i. in_turn (run_of g pass (ex i) (ey i) (sample_filtering depth a.size (es i).limit (es i).blimit (es i).thresh)) a.count samples) ∙ (rw (lt-ltb 0 a.level level))
 
-pub filtered_off : (g : WindowShape) (s : Superblock) (pass : Pass) (sharpness depth : ℕ) (a : EdgeRun) (samples : List ℕ) → a.level ≤ 0 → samples ≡ run_filtered g s pass sharpness depth a samples
-unfolding run_filtered
-filtered_off g s pass sharpness depth a samples none = rw (le-ltb 0 a.level none)
-
 -- what this asks for: the work's needs but the cells
 pub record Able (g : WindowShape) (s : Superblock) (sharpness depth : ℕ) (samples : List ℕ) : Type 0 where
   pub window : Lent g (length samples)
@@ -125,29 +121,14 @@ module _ (g : WindowShape) (s : Superblock) (pass : Pass) (sharpness depth : ℕ
   unfolding runs_filtered
   runs_none samples = refl
 
-  pub runs_one : (a : EdgeRun) (samples : List ℕ) → run_filtered g s pass sharpness depth a samples ≡ runs_filtered (a ∷ []) samples
+  pub runs_next : (a : EdgeRun) (l : List EdgeRun) (samples : List ℕ) → runs_filtered l (run_filtered g s pass sharpness depth a samples) ≡ runs_filtered (a ∷ l) samples
   unfolding runs_filtered
-  runs_one a samples = refl
+  runs_next a l samples = refl
 
-  pub runs_append : (l m : List EdgeRun) (samples : List ℕ) → runs_filtered m (runs_filtered l samples) ≡ runs_filtered (l ++ m) samples
-  unfolding runs_filtered
-  runs_append l m samples = sym (run_append (run_filtered g s pass sharpness depth) l m samples)
-
-  -- those that do not filter may be left out
-  pub runs-select : (l : List EdgeRun) (samples : List ℕ) → runs_filtered l samples ≡ runs_filtered (select run_filters l) samples
-  unfolding runs_filtered
-  runs-select l samples =
-      run_idle (run_filtered g s pass sharpness depth) run_filters l (λ a m e u. sym (filtered_off g s pass sharpness depth a u (ltb-false 0 a.level e))) samples
-
-  -- they keep the length of the list, and samples in range
+  -- a run keeps the length of the list, and samples in range
   run_length : (a : EdgeRun) (samples : List ℕ) → length (run_filtered g s pass sharpness depth a samples) ≡ length samples
   unfolding run_filtered
   run_length a samples = either (λ (l : List ℕ). length l ≡ length samples) (run_filters a) (in_turn-length _ a.count samples) refl
-
-  pub runs-length : (l : List EdgeRun) (samples : List ℕ) → length (runs_filtered l samples) ≡ length samples
-  unfolding runs_filtered
-  runs-length [] samples = refl
-  runs-length (a ∷ l) samples = runs-length l (run_filtered g s pass sharpness depth a samples) ∙ run_length a samples
 
   module _ {lent : ℕ} (w : Lent g lent) (deep : supported depth ≡ true) where
     turn_range : (x y size limit blimit thresh n : ℕ) (samples : List ℕ) → InRange g (2 ^ depth) samples
@@ -161,10 +142,11 @@ module _ (g : WindowShape) (s : Superblock) (pass : Pass) (sharpness depth : ℕ
     unfolding run_filtered
     run_range a samples r = either (InRange g (2 ^ depth)) (run_filters a) (turn_range _ _ a.size _ _ _ a.count samples r) r
 
-    pub runs_range : (l : List EdgeRun) (samples : List ℕ) → InRange g (2 ^ depth) samples → InRange g (2 ^ depth) (runs_filtered l samples)
-    unfolding runs_filtered
-    runs_range [] samples r = r
-    runs_range (a ∷ l) samples r = runs_range l (run_filtered g s pass sharpness depth a samples) (run_range a samples r)
+-- so the work may go on behind a run
+pub able_run : {g : WindowShape} {s : Superblock} (pass : Pass) {sharpness depth : ℕ} {before after : List ℕ} → Able g s sharpness depth before → (a : EdgeRun)
+    → after ≡ run_filtered g s pass sharpness depth a before → Able g s sharpness depth after
+able_run {g} {s} pass {sharpness} {depth} {before} able a e =
+    able_after able (ap length e ∙ run_length g s pass sharpness depth a before) (rw e (run_range g s pass sharpness depth able.window able.deep a before able.range))
 
 -- ---- the runs of a pass are the pass
 

@@ -1,6 +1,6 @@
 -- How long the text of a run sheet is: at least 1 and at most 2,048 bytes, whatever the sheet holds.
 -- Assumes nothing.
-use Rattle.std.specs.Prelude.{◌≡◌, refl, Bool, true, false, not, ◌||◌, ℕ, ◌-◌, ◌*◌, ◌/◌, ◌≤◌, ◌<◌, ltb, length, Option, Some, None}
+use Rattle.std.specs.Prelude.{◌≡◌, refl, Bool, true, false, not, ◌||◌, ℕ, ◌-◌, ◌*◌, ◌/◌, ◌≤◌, ◌<◌, ltb, length, Some}
 use mathlib.Core.List.{List, Memᴰ}
 use Rattle.std.proofs.Common.{mul-le-mul_right, arith, ltb-true, length-append}
 use Rattle.base.specs.Depth.{supported}

@@ -1,9 +1,8 @@
-use Rattle.std.proofs.Common.{◌≡◌, ◌≤◌, ◌-◌, ◌/◌, length, Bool, refl, sym, ap, subst, ◌∙◌, ℕ, List, [], false, Result, Ok, Err}
+use Rattle.std.proofs.Common.{◌≡◌, ◌≤◌, ◌-◌, ◌/◌, length, Bool, refl, sym, ap, subst, ◌∙◌, ℕ, List, [], false, Result}
 use Rattle.base.specs.Depth.{supported}
 use Rattle.base.specs.Fault.{afterwards}
 use Rattle.base.specs.Outcome.{Outcome, accepted, refused}
 use Rattle.base.specs.declared.fault.Fault.{Fault}
-use Rattle.decided.specs.declared.EdgeRun.{EdgeRun}
 use Rattle.faults.specs.Faults.{numbers_refused}
 use Rattle.faults.specs.FaultsLaws.{numbers_passed, numbers_any}
 use Rattle.sheet_header.specs.SheetHeader.{header_of, bad_header}

@@ -1,50 +1,37 @@
-use mathlib.Core.Path.{◌≡◌, ap, ◌∙◌}
-use native.Mathlib.Omega.{arith}
-use lib.ListN.{length}
-use Rattle.decided.specs.CellWalk.{pass_none, pass_next}
-use Rattle.decided.specs.KeyRuns.{key_runs}
-use Rattle.pass_edges.specs.PassEdges.{edge_count}
-use Rattle.pass.specs.WorkLaws.{runs-length}
-use Rattle.pass.specs.WalkLaws.{walk_none, walk_then, walk_able, walk_whole}
+use Rattle.std.proofs.Common.{arith, ap, sym, ◌∙◌, List}
+use Rattle.decided.specs.RunsLeft.{runs_left}
+use Rattle.decided.specs.declared.EdgeRun.{EdgeRun}
+use Rattle.window.specs.RangeLaws.{range_wider}
+use Rattle.pass.specs.WorkLaws.{able_run, depth_12, filtered_on, runs_filtered, runs_next, runs_none}
 use Rattle.pass.proofs.edge.filter_keys.Goals as goal
 
-pub loop-edge-init : goal.loop-edge-init
-loop-edge-init c =
+pub filter_run_unchecked-requires : goal.filter_run_unchecked-requires
+filter_run_unchecked-requires c =
+    let able = c.loop-a.invariant.1 in
+    let small = c.in-Some.ensures.steps.1.0 in
+    (able.window, omega (arith, c.plane_x-x.ensures.1), omega (arith, c.plane_y-y.ensures.1), small.count, able.deep, small.size, range_wider _ _ 4096 _ (depth_12 _ able.deep) able.range)
+
+pub loop-a-preserved : goal.loop-a-preserved
+loop-a-preserved c =
     let a = c.args in
-    (omega arith, walk_none _ _ (pass_none a.s a.pass a.keys.now.outer a.keys.now.inner) c.no_run-pending.ensures.0)
-
-pub filter_edge-pending-requires : goal.filter_edge-pending-requires
-filter_edge-pending-requires c =
-    let loop = c.loop-edge in
-    let limits = c in
-    let start = limits in
-    (walk_able loop.invariant.1 start.requires, rw limits.edge_count-count.ensures.0 at c.loop-edge-test.true, loop.invariant.1.small)
-
-pub loop-edge-preserved : goal.loop-edge-preserved
-loop-edge-preserved c =
-    let at-loop = c in
-    let a = at-loop.args in
-    let loop = at-loop.loop-edge in (
-      omega arith,
-      rw (← pass_next a.s a.pass a.keys.now.outer a.keys.now.inner loop.edge) (walk_then loop.invariant.1 c.filter_edge-pending.ensures),
+    let loop = c.loop-a in
+    let steps = c.in-Some.ensures.steps in
+    let run = filtered_on a.g a.s a.pass a.sharpness a.depth c.in-Some.a steps.1.1 _ _ _
+    c.plane_x-x.ensures.0 c.plane_y-y.ensures.0 c.strength_unchecked-strength.ensures _ _ c.filter_run_unchecked.ensures in (
+      c.in-Some.ensures.goes.keeps,
+      able_run a.pass loop.invariant.1 c.in-Some.a run,
+      ap (runs_filtered a.g a.s a.pass a.sharpness a.depth (runs_left c.next.new.self)) run
+          ∙ runs_next a.g a.s a.pass a.sharpness a.depth c.in-Some.a (runs_left c.next.new.self) loop.samples
+          ∙ ap (λ (l : List EdgeRun). runs_filtered a.g a.s a.pass a.sharpness a.depth l loop.samples) (sym steps.0)
+          ∙ loop.invariant.2,
     )
-
-pub filter_pending-requires : goal.filter_pending-requires
-filter_pending-requires c =
-    let loop = c.loop-edge in
-    let limits = c in
-    (walk_able loop.invariant.1 limits.requires, loop.invariant.1.small)
 
 pub returns : goal.returns
 returns c =
-    let at-loop = c in
-    let none = at-loop in
-    let count = none in
-    let a = count.args in
-    let all : at-loop.loop-edge.edge ≡ edge_count a.s a.pass = omega (arith, count.edge_count-count.ensures.0, at-loop.loop-edge.invariant.0, c.loop-edge-test.false) in
-    walk_whole a.keys.now.outer a.keys.now.inner none.no_run-pending.ensures.1 (rw all at at-loop.loop-edge.invariant.1) c.filter_pending.ensures
-
-pub shape_of-samples : goal.shape_of-samples
-shape_of-samples c =
     let a = c.args in
-    ap length (returns c) ∙ runs-length a.g a.s a.pass a.sharpness a.depth (key_runs a.s a.pass a.keys.now.outer a.keys.now.inner) _
+    let loop = c.loop-a in
+    let all = ap runs_left c.into_iter-a-iterator.ensures.into_iter_gives ∙ c.new-a-items.ensures.1 in
+    runs_none a.g a.s a.pass a.sharpness a.depth loop.samples
+    ∙ ap (λ (l : List EdgeRun). runs_filtered a.g a.s a.pass a.sharpness a.depth l loop.samples) (sym c.in-None.ensures.steps.0.0)
+    ∙ loop.invariant.2
+    ∙ ap (λ (l : List EdgeRun). runs_filtered a.g a.s a.pass a.sharpness a.depth l a.samples.now) all

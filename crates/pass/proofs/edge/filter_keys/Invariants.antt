@@ -1,11 +1,9 @@
-use Prim.Native.Nat.{◌-◌, ◌≤◌}
-use Rattle.decided.specs.CellWalk.{pass_cells}
-use Rattle.pass.specs.WalkLaws.{Walk}
+use Rattle.std.proofs.Common.{◌≡◌}
+use Rattle.decided.specs.RunsLeft.{Joining, runs_left}
+use Rattle.pass.specs.WorkLaws.{Able, runs_filtered}
 use Rattle.pass.proofs.edge.filter_keys.Given as goal
 
-abbrev pub invariant-loop-edge : goal.invariant-loop-edge
-invariant-loop-edge l =
-    (l.edge ≤ l.count) × Walk l.g l.s l.pass l.sharpness l.depth (pass_cells l.s l.pass l.keys.outer l.keys.inner l.edge) l.initial.pending l.initial.samples l.samples l.pending
-
-abbrev pub decreases-loop-edge : goal.decreases-loop-edge
-decreases-loop-edge l = l.count - l.edge
+abbrev pub invariant-loop-a : goal.invariant-loop-a
+invariant-loop-a l =
+    Joining l.a-iterator × Able l.g l.s l.sharpness l.depth l.samples
+    × (runs_filtered l.g l.s l.pass l.sharpness l.depth (runs_left l.a-iterator) l.samples ≡ runs_filtered l.g l.s l.pass l.sharpness l.depth (runs_left l.initial.a-iterator) l.initial.samples)

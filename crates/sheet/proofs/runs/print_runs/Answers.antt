@@ -1,43 +1,36 @@
-use borrow.Author.Rules.{rules}
-use mathlib.Core.Path.{◌≡◌, ◌∙◌}
-use native.Mathlib.Omega.{arith}
-use Rattle.decided.specs.CellWalk.{pass_none, pass_next}
-use Rattle.pass_edges.specs.PassEdges.{edge_count}
-use Rattle.sheet.specs.PrintLaws.{fed_none, fed_then, fed_length, pass_near, fed_all}
+use Rattle.std.proofs.Common.{arith, ap, ◌∙◌, length, refl}
+use Rattle.decided.proofs.AllRuns.{few_runs}
+use Rattle.decided.specs.RunsLeft.{runs_left}
+use Rattle.sheet_lines.specs.SheetLines.{run_line, run_lines}
+use Rattle.text.specs.Text.{written}
+use Rattle.text.specs.TextLaws.{put_then}
 use Rattle.sheet.proofs.runs.print_runs.Goals as goal
 
-pub loop-edge-init : goal.loop-edge-init
-loop-edge-init c =
+pub loop-a-init : goal.loop-a-init
+loop-a-init c =
     let a = c.args in
-    (omega arith, fed_none _ _ (pass_none a.s a.pass a.keys.now.outer a.keys.now.inner) c.no_run.ensures.0)
-
-pub print_edge-p-requires : goal.print_edge-p-requires
-print_edge-p-requires c =
-    let a = c.args in
-    let loop = c.loop-edge in (
-      omega (arith, pass_near a.s a.pass a.keys.now.outer a.keys.now.inner loop.edge loop.invariant.1),
-      loop.invariant.1.small,
-      rw c.edge_count-edge-end.ensures.0 at c.loop-edge-test.true,
+    let few = ap length (ap runs_left c.into_iter-a-iterator.ensures.into_iter_gives ∙ c.new-a-items.ensures.1) in (
+      rw c.into_iter-a-iterator.ensures.into_iter_gives c.new-a-items.ensures.0,
+      omega (arith, few, few_runs a.s a.pass a.keys.now.outer a.keys.now.inner),
+      (refl, refl),
     )
 
-pub loop-edge-preserved : goal.loop-edge-preserved
-loop-edge-preserved c =
-    let a = c.args in
-    let loop = c.loop-edge in
-    (omega arith, rw (← pass_next a.s a.pass a.keys.now.outer a.keys.now.inner loop.edge) (fed_then loop.invariant.1 c.print_edge-p.ensures))
-
-pub print_pending-requires : goal.print_pending-requires
-print_pending-requires c =
-    let a = c.args in
-    let loop = c.loop-edge in
-    (omega (arith, pass_near a.s a.pass a.keys.now.outer a.keys.now.inner loop.edge loop.invariant.1, c.edge_count-edge-end.ensures.1), loop.invariant.1.small)
-
-pub shape_of-out : goal.shape_of-out
-shape_of-out c = (search rules) ∙ fed_length c.loop-edge.invariant.1
+pub loop-a-preserved : goal.loop-a-preserved
+unfolding run_lines
+loop-a-preserved c =
+    let loop = c.loop-a in
+    let steps = c.in-Some.ensures.steps in
+    let rest = run_lines (runs_left c.next.new.self) in
+    let line = c.print_run_unchecked-end.ensures in
+    let shorter = ap length steps.0 in
+    let put = put_then loop.end (run_line c.in-Some.a) rest loop.out line.0 (refl, refl) in
+    let before = rw steps.0 at loop.invariant.2 in
+    (c.in-Some.ensures.goes.keeps, omega (arith, line.1, shorter, loop.invariant.1), (put.0 ∙ before.0, put.1 ∙ before.1))
 
 pub returns : goal.returns
+unfolding run_lines written
 returns c =
-    let loop = c.loop-edge in
-    let a = c.args in
-    let all : loop.edge ≡ edge_count a.s a.pass = omega (arith, c.edge_count-edge-end.ensures.0) in
-    fed_all a.s a.pass a.keys.now.outer a.keys.now.inner c.no_run.ensures.1 (rw all at loop.invariant.1) c.print_pending.ensures.0
+    let loop = c.loop-a in
+    let all = ap runs_left c.into_iter-a-iterator.ensures.into_iter_gives ∙ c.new-a-items.ensures.1 in
+    let put = rw (c.in-None.ensures.steps.0.0, all) at loop.invariant.2 in
+    (put.0, omega (arith, put.1))

@@ -1,10 +1,12 @@
-use Prim.Native.Nat.{◌-◌, ◌≤◌}
-use Rattle.decided.specs.CellWalk.{pass_cells}
-use Rattle.sheet.specs.PrintLaws.{Fed}
+use Rattle.std.proofs.Common.{◌+◌, ◌*◌, ◌≤◌, length}
+use Rattle.decided.specs.RunsLeft.{Joining, runs_left}
+use Rattle.sheet_lines.specs.SheetLines.{run_lines}
+use Rattle.text.specs.Text.{Put, written}
 use Rattle.sheet.proofs.runs.print_runs.Given as goal
 
-abbrev pub invariant-loop-edge : goal.invariant-loop-edge
-invariant-loop-edge l = (l.edge ≤ l.edge-end) × Fed (pass_cells l.s l.pass l.keys.outer l.keys.inner l.edge) l.initial.p l.initial.out l.out l.p
-
-abbrev pub decreases-loop-edge : goal.decreases-loop-edge
-decreases-loop-edge l = l.edge-end - l.edge
+-- with the lines that are still to come, all are written
+abbrev pub invariant-loop-a : goal.invariant-loop-a
+invariant-loop-a l =
+    let lines = run_lines (runs_left l.a-iterator) in
+    Joining l.a-iterator × (l.end + 15 * length (runs_left l.a-iterator) ≤ 2944)
+    × Put l.initial.end (run_lines (runs_left l.initial.a-iterator)) l.initial.out (written l.end lines l.out) (l.end + length lines)

@@ -1,0 +1,63 @@
+// The cells of a pass that filter, edge by edge, each as a run by itself.
+ghost use Rattle.std.specs.Prelude.{◌≡◌, ◌*◌};
+ghost use Rattle.decided.specs.CellsLeft.{cells_in};
+ghost use Rattle.pass_edges.specs.PassEdges.{edge_count};
+
+use crate::{EdgeRun, key_run_unchecked};
+use geometry::{Pass, Superblock};
+use keys::Keys;
+use pass_edges::edge_count;
+
+#[derive(Drop)]
+pub(crate) struct KeyCells<'a> {
+    s: Superblock,
+    pass: Pass,
+    keys: &'a Keys,
+    // The number of the pass's cells, and of those that were walked.
+    count: usize,
+    at: usize,
+}
+
+impl<'a> KeyCells<'a> {
+    ghost use Rattle.decided.specs.CellsLeft.{Walking, cells_left};
+
+    pub(crate) fn new(s: Superblock, pass: Pass, keys: &'a Keys) -> KeyCells<'a>
+        ensures { Walking result × (cells_left result ≡ cells_in s pass keys.now.outer keys.now.inner 0 (8 * edge_count s pass)) }
+    {
+        KeyCells {
+            s,
+            pass,
+            keys,
+            count: 8 * edge_count(s, pass),
+            at: 0,
+        }
+    }
+}
+
+impl<'a> Iterator for KeyCells<'a> {
+    ghost use Rattle.std.specs.Iterator.{item_count};
+    ghost use Rattle.decided.specs.CellsLeft.{Walking, cells_left, GivesCell};
+
+    type Item = EdgeRun;
+
+    ghost can_next = { Walking };
+
+    ghost next_gives = { GivesCell };
+
+    ghost remaining = { item_count cells_left };
+
+    // Level 0 filters nothing.
+    #[inline(always)]
+    fn next(&mut self) -> Option<EdgeRun> {
+        while self.at < self.count {
+            let edge = self.at / 8;
+            let c = self.at % 8;
+            let key = self.keys.key_at_unchecked(edge, c);
+            self.at += 1;
+            if key % 64 != 0 {
+                return Some(key_run_unchecked(self.s, self.pass, key, edge, c));
+            }
+        }
+        None
+    }
+}
