@@ -2,7 +2,7 @@
 -- Assumes nothing.
 use Rattle.std.specs.Prelude.{refl, ◌≡◌, ℕ, suc, ◌+◌, ◌-◌, ◌*◌, ◌/◌, ◌%◌, ◌≤◌, ◌<◌, List, [], ◌∷◌, Option, IfSome}
 use Rattle.std.proofs.Common.{add-one, arith, lt-ltb}
-use Rattle.std.specs.Iterator.{YieldsFirst}
+use Rattle.std.specs.Iterator.{YieldsFirstBy}
 use Rattle.geometry.specs.declared.Pass.{Pass}
 use Rattle.geometry.specs.declared.Superblock.{Superblock}
 use Rattle.order.specs.Grid.{select, strip}
@@ -10,9 +10,9 @@ use Rattle.pass_edges.specs.PassEdges.{edge_count}
 use Rattle.decided.specs.KeyRuns.{key_cell, key_run}
 use Rattle.keys.specs.Keyed.{key_for}
 use Rattle.decided.specs.Runs.{run_filters}
-use Rattle.decided.specs.RunsLaws.{Small}
 use Rattle.decided.specs.declared.EdgeRun.{EdgeRun}
 use Rattle.decided.specs.declared.key_cells.KeyCells.{KeyCells}
+use Rattle.decided.specs.declared.small_run.SmallRun.{SmallRun}
 
 module _ (s : Superblock) (pass : Pass) (outer inner : List ℕ) where
   -- cell k of a pass, edge by edge
@@ -50,5 +50,5 @@ pub record Walking (w : KeyCells) : Type 0 where
   pub within : w.at ≤ w.count
 
 -- behind the last cell, too, the walk may go on
-abbrev pub GivesCell : KeyCells → Option EdgeRun → KeyCells → Type 0
-GivesCell w r v = YieldsFirst cells_left w r v × IfSome r Small × Walking v
+abbrev pub GivesCell : KeyCells → Option SmallRun → KeyCells → Type 0
+GivesCell w r v = YieldsFirstBy (λ a. a.of) cells_left w r v × Walking v

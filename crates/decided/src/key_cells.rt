@@ -3,7 +3,7 @@ ghost use Rattle.std.specs.Prelude.{◌≡◌, ◌*◌};
 ghost use Rattle.decided.specs.CellsLeft.{cells_in};
 ghost use Rattle.pass_edges.specs.PassEdges.{edge_count};
 
-use crate::{EdgeRun, key_run_unchecked};
+use crate::small_run::{SmallRun, key_run_unchecked};
 use geometry::{Pass, Superblock};
 use keys::Keys;
 use pass_edges::edge_count;
@@ -38,7 +38,7 @@ impl<'a> Iterator for KeyCells<'a> {
     ghost use Rattle.std.specs.Iterator.{item_count};
     ghost use Rattle.decided.specs.CellsLeft.{Walking, cells_left, GivesCell};
 
-    type Item = EdgeRun;
+    type Item = SmallRun;
 
     ghost can_next = { Walking };
 
@@ -48,7 +48,7 @@ impl<'a> Iterator for KeyCells<'a> {
 
     // Level 0 filters nothing.
     #[inline(always)]
-    fn next(&mut self) -> Option<EdgeRun> {
+    fn next(&mut self) -> Option<SmallRun> {
         while self.at < self.count {
             let edge = self.at / 8;
             let c = self.at % 8;

@@ -3,7 +3,7 @@ ghost use Rattle.std.specs.Prelude.{◌≡◌};
 ghost use Rattle.decided.specs.KeyRuns.{key_runs};
 
 use crate::key_cells::KeyCells;
-use crate::{EdgeRun, joins_unchecked, longer_unchecked, no_run};
+use crate::small_run::{SmallRun, no_run};
 use geometry::{Pass, Superblock};
 use keys::Keys;
 use std::mem::replace;
@@ -12,14 +12,15 @@ use std::mem::replace;
 pub struct PassRuns<'a> {
     cells: KeyCells<'a>,
     // The run that may still grow.
-    pending: EdgeRun,
+    pending: SmallRun,
 }
 
 impl<'a> PassRuns<'a> {
-    ghost use Rattle.decided.specs.RunsLeft.{Joining, runs_left};
+    ghost use Rattle.decided.specs.CellsLeft.{Walking};
+    ghost use Rattle.decided.specs.RunsLeft.{runs_left};
 
     pub fn new(s: Superblock, pass: Pass, keys: &'a Keys) -> PassRuns<'a>
-        ensures { Joining result × (runs_left result ≡ key_runs s pass keys.now.outer keys.now.inner) }
+        ensures { Walking result.cells × (runs_left result ≡ key_runs s pass keys.now.outer keys.now.inner) }
     {
         PassRuns {
             cells: KeyCells::new(s, pass, keys),
@@ -30,11 +31,12 @@ impl<'a> PassRuns<'a> {
 
 impl<'a> Iterator for PassRuns<'a> {
     ghost use Rattle.std.specs.Iterator.{item_count};
-    ghost use Rattle.decided.specs.RunsLeft.{Joining, runs_left, GivesRun};
+    ghost use Rattle.decided.specs.CellsLeft.{Walking};
+    ghost use Rattle.decided.specs.RunsLeft.{runs_left, GivesRun};
 
-    type Item = EdgeRun;
+    type Item = SmallRun;
 
-    ghost can_next = { Joining };
+    ghost can_next = { λ w. Walking w.cells };
 
     ghost next_gives = { GivesRun };
 
@@ -42,18 +44,18 @@ impl<'a> Iterator for PassRuns<'a> {
 
     // Nothing is pending before the first cell and behind the last.
     #[inline(always)]
-    fn next(&mut self) -> Option<EdgeRun> {
+    fn next(&mut self) -> Option<SmallRun> {
         while let Some(cell) = self.cells.next() {
-            if joins_unchecked(self.pending, cell) {
-                self.pending = longer_unchecked(self.pending, cell.count);
+            if self.pending.joins(cell) {
+                self.pending = self.pending.longer_unchecked(cell.of.count);
             } else {
                 let closed = replace(&mut self.pending, cell);
-                if 0 < closed.level {
+                if 0 < closed.of.level {
                     return Some(closed);
                 }
             }
         }
         let last = replace(&mut self.pending, no_run());
-        if 0 < last.level { Some(last) } else { None }
+        if 0 < last.of.level { Some(last) } else { None }
     }
 }

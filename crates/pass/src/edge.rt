@@ -25,7 +25,8 @@ pub(crate) fn filter_keys(
     ensures { samples.new ≡ runs_filtered g s pass sharpness depth (key_runs s pass keys.now.outer keys.now.inner) samples.old }
 {
     let limits = limits_table();
-    for a in PassRuns::new(s, pass, keys) {
+    for small in PassRuns::new(s, pass, keys) {
+        let a = small.of;
         let start = EdgePosition {
             s,
             pass,

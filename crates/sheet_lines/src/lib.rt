@@ -2,12 +2,11 @@
 #![tactic(auto)]
 
 ghost use Rattle.std.specs.Prelude.{◌∷◌, [], ◌++◌, ◌+◌, ◌≤◌, ◌<◌, length};
-ghost use Rattle.decided.specs.RunsLaws.{Small};
 ghost use Rattle.text.specs.Text.{Put};
 ghost use Rattle.sheet_header.specs.SheetHeaderLaws.{Header};
 ghost use Rattle.sheet_lines.specs.SheetLines.{ended_by, named, first_line, run_line, refusal_line};
 
-use decided::EdgeRun;
+use decided::SmallRun;
 use sheet_header::SheetHeader;
 use text::{put_byte_unchecked, put_bytes_unchecked, put_decimal_unchecked};
 
@@ -42,10 +41,11 @@ pub fn print_first_unchecked(out: &mut [u8], h: SheetHeader) -> usize
 }
 
 // edge, first position, positions, size, level.
-pub fn print_run_unchecked(out: &mut [u8], at: usize, a: EdgeRun) -> usize
-    requires { (at ≤ 32768) × Small a }
-    ensures { Put at (run_line a) out.old out.new result × (result ≤ at + 15) }
+pub fn print_run_unchecked(out: &mut [u8], at: usize, a: SmallRun) -> usize
+    requires { at ≤ 32768 }
+    ensures { Put at (run_line a.of) out.old out.new result × (result ≤ at + 15) }
 {
+    let a = a.of;
     let edge = put_number(out, at, a.edge, b' ');
     let first = put_number(out, edge, a.first, b' ');
     let count = put_number(out, first, a.count, b' ');

@@ -23,7 +23,7 @@ loop-a-preserved c =
     let rest = run_lines (runs_left c.next.new.self) in
     let line = c.print_run_unchecked-end.ensures in
     let shorter = ap length steps.0 in
-    let put = put_then loop.end (run_line c.in-Some.a) rest loop.out line.0 (refl, refl) in
+    let put = put_then loop.end (run_line c.in-Some.a.of) rest loop.out line.0 (refl, refl) in
     let before = rw steps.0 at loop.invariant.2 in
     (c.in-Some.ensures.goes.keeps, omega (arith, line.1, shorter, loop.invariant.1), (put.0 ∙ before.0, put.1 ∙ before.1))
 

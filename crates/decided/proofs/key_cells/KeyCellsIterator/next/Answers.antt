@@ -15,8 +15,7 @@ pub returns-then-key-ne0-clause-steps : goal.returns-then-key-ne0-clause-steps
 returns-then-key-ne0-clause-steps c =
     let w = c.loop-self.self in (
       sym c.loop-self.invariant.1
-          ∙ cells_on w.s w.pass w.keys.now.outer w.keys.now.inner c.key_at_unchecked-key.ensures.0 c.loop-self-test.true (omega (arith, c.if-key-ne0.true)) c.key_run_unchecked.ensures.0,
-      c.key_run_unchecked.ensures.1,
+          ∙ cells_on w.s w.pass w.keys.now.outer w.keys.now.inner c.key_at_unchecked-key.ensures.0 c.loop-self-test.true (omega (arith, c.if-key-ne0.true)) c.key_run_unchecked.ensures,
       record { all = c.loop-self.invariant.0.all; within = omega (arith, c.loop-self-test.true) },
     )
 
@@ -35,4 +34,4 @@ pub returns-clause-steps : goal.returns-clause-steps
 returns-clause-steps c =
     let w = c.loop-self.self in
     let none = cells_end w.s w.pass w.keys.now.outer w.keys.now.inner w.at w.count (omega (arith, c.loop-self-test.false)) in
-    ((sym c.loop-self.invariant.1 ∙ none, none), tt, c.loop-self.invariant.0)
+    ((sym c.loop-self.invariant.1 ∙ none, none), c.loop-self.invariant.0)

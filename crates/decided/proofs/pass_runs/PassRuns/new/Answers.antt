@@ -6,6 +6,6 @@ pub returns : goal.returns
 unfolding runs_left
 returns c =
     let a = c.args in (
-      record { walking = c.new.ensures.0; small = c.no_run.ensures.0 },
-      all_runs a.s a.pass a.keys.now.outer a.keys.now.inner _ c.no_run.ensures.1 c.new.ensures.1,
+      c.new.ensures.0,
+      all_runs a.s a.pass a.keys.now.outer a.keys.now.inner _ c.no_run.ensures c.new.ensures.1,
     )

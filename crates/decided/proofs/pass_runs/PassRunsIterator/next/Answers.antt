@@ -1,27 +1,27 @@
 use Rattle.std.proofs.Common.{rules, arith, ◌≡◌, [], ◌∙◌, sym, ap, length}
+use Rattle.decided.specs.CellsLeft.{Walking}
 use Rattle.decided.specs.JoinLaws.{joins_true}
-use Rattle.decided.specs.declared.EdgeRun.{EdgeRun}
-use Rattle.decided.specs.RunsLeft.{Joining, runs_left, runs_close, runs_drop, runs_join, runs_last, runs_none}
+use Rattle.decided.specs.declared.small_run.SmallRun.{SmallRun}
+use Rattle.decided.specs.RunsLeft.{runs_left, runs_close, runs_drop, runs_join, runs_last, runs_none}
 use Rattle.decided.proofs.pass_runs.PassRunsIterator.next.Goals as goal
 
 pub longer_unchecked-self-requires : goal.longer_unchecked-self-requires
-longer_unchecked-self-requires c =
-    (c.loop-cell.invariant.0.small, (joins_true _ _ (sym c.joins_unchecked.ensures ∙ c.if-joins_unchecked.true)).count)
+longer_unchecked-self-requires c = (joins_true _ _ (sym c.joins.ensures ∙ c.if-joins.true)).count
 
-pub loop-cell-preserved-then-joins_unchecked : goal.loop-cell-preserved-then-joins_unchecked
-loop-cell-preserved-then-joins_unchecked c =
+pub loop-cell-preserved-then-joins : goal.loop-cell-preserved-then-joins
+loop-cell-preserved-then-joins c =
     let run = c.longer_unchecked-self.ensures in (
-      record { walking = c.in-Some.ensures.goes.keeps; small = run.1 },
-      sym (runs_join c.loop-cell.self _ c.in-Some.ensures.steps.0 (sym c.joins_unchecked.ensures ∙ c.if-joins_unchecked.true) run.0) ∙ c.loop-cell.invariant.1,
+      c.in-Some.ensures.goes.keeps,
+      sym (runs_join c.loop-cell.self c.in-Some.cell _ c.in-Some.ensures.steps.0 _ (sym c.joins.ensures ∙ c.if-joins.true) run) ∙ c.loop-cell.invariant.1,
     )
 
 pub returns-then-closed-gt0-clause-steps : goal.returns-then-closed-gt0-clause-steps
 returns-then-closed-gt0-clause-steps c =
-    let parts = sym c.joins_unchecked.ensures ∙ c.if-joins_unchecked.false in
+    let parts = sym c.joins.ensures ∙ c.if-joins.false in
     let closed = c.replace-closed.ensures in
     rw (closed.value, closed.after) (
-      (sym c.loop-cell.invariant.1 ∙ runs_close c.loop-cell.self _ c.in-Some.ensures.steps.0 parts (rw closed.value at c.if-closed-gt0.true)),
-      (c.loop-cell.invariant.0.small, rw closed.value at c.if-closed-gt0.true),
+      (sym c.loop-cell.invariant.1 ∙ runs_close c.loop-cell.self c.in-Some.cell _ c.in-Some.ensures.steps.0 parts (rw closed.value at c.if-closed-gt0.true)),
+      rw closed.value at c.if-closed-gt0.true,
     )
 
 pub returns-then-closed-gt0-clause-goes : goal.returns-then-closed-gt0-clause-goes
@@ -30,12 +30,12 @@ returns-then-closed-gt0-clause-goes c =
 
 pub loop-cell-preserved : goal.loop-cell-preserved
 loop-cell-preserved c =
-    let parts = sym c.joins_unchecked.ensures ∙ c.if-joins_unchecked.false in
+    let parts = sym c.joins.ensures ∙ c.if-joins.false in
     let closed = c.replace-closed.ensures in
-    let level = ap (λ (a : EdgeRun). a.level) closed.value in
+    let level = ap (λ (a : SmallRun). a.of.level) closed.value in
     rw closed.after (
-      record { walking = c.in-Some.ensures.goes.keeps; small = c.in-Some.ensures.steps.1 },
-      sym (runs_drop c.loop-cell.self _ c.in-Some.ensures.steps.0 parts (omega (arith, level, c.if-closed-gt0.false))) ∙ c.loop-cell.invariant.1,
+      c.in-Some.ensures.goes.keeps,
+      sym (runs_drop c.loop-cell.self c.in-Some.cell _ c.in-Some.ensures.steps.0 parts (omega (arith, level, c.if-closed-gt0.false))) ∙ c.loop-cell.invariant.1,
     )
 
 pub returns-then-last-gt0-clause-steps : goal.returns-then-last-gt0-clause-steps
@@ -43,22 +43,21 @@ returns-then-last-gt0-clause-steps c =
     let last = c.replace-last.ensures in
     let none = c.in_default.ensures.steps.0 in
     let level = rw last.value at c.if-last-gt0.true in
-    let idle : runs_left (record { cells = c.next.new.self; pending = c.no_run.result }) ≡ [] = runs_none _ none.1 (omega (arith, c.no_run.ensures.1)) in
+    let idle : runs_left (record { cells = c.next.new.self; pending = c.no_run.result }) ≡ [] = runs_none _ none.1 (omega (arith, c.no_run.ensures)) in
     rw (last.value, last.after, idle)
-    (sym c.loop-cell.invariant.1 ∙ runs_last c.loop-cell.self none.0 level, (c.loop-cell.invariant.0.small, level))
+    (sym c.loop-cell.invariant.1 ∙ runs_last c.loop-cell.self none.0 level, level)
 
 pub returns-then-last-gt0-clause-goes : goal.returns-then-last-gt0-clause-goes
 returns-then-last-gt0-clause-goes c =
     let shorter = ap length (returns-then-last-gt0-clause-steps c).0 in
-    let joining : Joining (record { cells = c.next.new.self; pending = c.no_run.result }) = record { walking = c.in_default.ensures.steps.2; small = c.no_run.ensures.0 } in
-    let kept = rw (← c.replace-last.ensures.after) at joining in
+    let walking : Walking c.next.new.self = c.in_default.ensures.steps.1 in
     search rules
 
 pub returns-else-last-gt0-clause-steps : goal.returns-else-last-gt0-clause-steps
 returns-else-last-gt0-clause-steps c =
     let last = c.replace-last.ensures in
     let none = c.in_default.ensures.steps.0 in
-    let level = ap (λ (a : EdgeRun). a.level) last.value in
-    let idle : runs_left (record { cells = c.next.new.self; pending = c.no_run.result }) ≡ [] = runs_none _ none.1 (omega (arith, c.no_run.ensures.1)) in
+    let level = ap (λ (a : SmallRun). a.of.level) last.value in
+    let idle : runs_left (record { cells = c.next.new.self; pending = c.no_run.result }) ≡ [] = runs_none _ none.1 (omega (arith, c.no_run.ensures)) in
     rw last.after
     ((sym c.loop-cell.invariant.1 ∙ runs_none c.loop-cell.self none.0 (omega (arith, level, c.if-last-gt0.false)), idle), tt)
