@@ -143,10 +143,10 @@ module _ (g : WindowShape) (s : Superblock) (pass : Pass) (sharpness depth : ℕ
     run_range a samples r = either (InRange g (2 ^ depth)) (run_filters a) (turn_range _ _ a.size _ _ _ a.count samples r) r
 
 -- so the work may go on behind a run
-pub able_run : {g : WindowShape} {s : Superblock} (pass : Pass) {sharpness depth : ℕ} {before after : List ℕ} → Able g s sharpness depth before → (a : EdgeRun)
-    → after ≡ run_filtered g s pass sharpness depth a before → Able g s sharpness depth after
-able_run {g} {s} pass {sharpness} {depth} {before} able a e =
-    able_after able (ap length e ∙ run_length g s pass sharpness depth a before) (rw e (run_range g s pass sharpness depth able.window able.deep a before able.range))
+pub after_run : {g : WindowShape} (s : Superblock) (pass : Pass) (sharpness depth : ℕ) (a : EdgeRun) {before after : List ℕ}
+    → Lent g (length before) → InRange g (2 ^ depth) before → supported depth ≡ true → after ≡ run_filtered g s pass sharpness depth a before → Lent g (length after) × InRange g (2 ^ depth) after
+after_run {g} s pass sharpness depth a {before} lent range deep e =
+    (rw (e, run_length g s pass sharpness depth a before) lent, rw e (run_range g s pass sharpness depth lent deep a before range))
 
 -- ---- the runs of a pass are the pass
 

@@ -1,12 +1,16 @@
 // The edges of a pass, run by run.
-ghost use Rattle.std.specs.Prelude.{◌≡◌};
+ghost use Rattle.std.specs.Prelude.{◌≡◌, ◌^◌, length};
 ghost use Rattle.decided.specs.KeyRuns.{key_runs};
-ghost use Rattle.pass.specs.WorkLaws.{Able, runs_filtered};
+ghost use Rattle.pass.specs.WorkLaws.{runs_filtered};
+ghost use Rattle.window.specs.RangeLaws.{InRange};
+ghost use Rattle.window.specs.WindowLaws.{Lent};
 
+use base::depth::Depth;
+use base::sharpness::Sharpness;
 use decided::PassRuns;
-use geometry::{Pass, Superblock};
+use geometry::Pass;
 use keys::Keys;
-use positions::EdgePosition;
+use positions::{EdgePosition, PlacedSuperblock};
 use runs::filter_run_unchecked;
 use strength::limits_table;
 use window::WindowShape;
@@ -15,17 +19,17 @@ use window::WindowShape;
 pub(crate) fn filter_keys(
     samples: &mut [u16],
     g: WindowShape,
-    s: Superblock,
+    s: PlacedSuperblock,
     pass: Pass,
-    sharpness: u8,
-    depth: u8,
+    sharpness: Sharpness,
+    depth: Depth,
     keys: &Keys,
 )
-    requires { Able g s sharpness depth samples.old }
-    ensures { samples.new ≡ runs_filtered g s pass sharpness depth (key_runs s pass keys.now.outer keys.now.inner) samples.old }
+    requires { Lent g (length samples.old) × InRange g (2 ^ depth.bits) samples.old }
+    ensures { samples.new ≡ runs_filtered g s.of pass sharpness.level depth.bits (key_runs s.of pass keys.now.outer keys.now.inner) samples.old }
 {
     let limits = limits_table();
-    for small in PassRuns::new(s, pass, keys) {
+    for small in PassRuns::new(s.of, pass, keys) {
         let a = small.of;
         let start = EdgePosition {
             s,

@@ -29,5 +29,5 @@ pub fn filter_keys_unchecked(
     requires { Lent g (length samples.old) × InRange g (2 ^ depth.bits) samples.old }
     ensures { FilteredBy g s.of pass sharpness.level depth.bits keys.now samples.old samples.new }
 {
-    filter_keys(samples, g, s.of, pass, sharpness.level, depth.bits, keys);
+    filter_keys(samples, g, s, pass, sharpness, depth, keys);
 }

@@ -3,11 +3,6 @@ use Rattle.decided.specs.Decided.{setting}
 use Rattle.pass.specs.WorkLaws.{keys_filtered}
 use Rattle.pass.proofs.filter_keys_unchecked.Goals as goal
 
-pub filter_keys-requires : goal.filter_keys-requires
-filter_keys-requires c =
-    let a = c.args in
-    record { window = c.requires.0; range = c.requires.1; placed = a.s.placed; sharp = a.sharpness.small; deep = a.depth.known }
-
 pub returns : goal.returns
 returns c =
     let a = c.args in
