@@ -32,6 +32,7 @@ fn max_tx_size_unchecked(size: u8) -> u8
     MAX_TXSIZE_LOOKUP[usize::from(size)]
 }
 
+#[tactic(auto, unfolding(crate::specs::ChromaTransforms::ss_size, base::specs::First::found, base::specs::First::first_from))]
 fn ss_size_unchecked(size: u8, subx: bool, suby: bool) -> u8
     requires { size ≤ 12 }
     ensures { result ≡ ss_size size subx suby }
@@ -45,6 +46,7 @@ fn ss_size_unchecked(size: u8, subx: bool, suby: bool) -> u8
     }
 }
 
+#[tactic(auto, unfolding(crate::specs::ChromaTransforms::uv_limit), using(crate::specs::ChromaTransformsLaws::ss_size_lem))]
 fn uv_limit_unchecked(subx: bool, suby: bool, mi_size: u8) -> u8
     requires { mi_size ≤ 12 }
     ensures { result ≡ uv_limit subx suby mi_size }
