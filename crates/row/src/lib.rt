@@ -12,8 +12,8 @@ ghost use Rattle.row.specs.RowLists.{lists_of};
 pub mod mode_info;
 mod word;
 
-use base::fault::Fault;
 use base::depth::is_supported;
+use base::fault::Fault;
 use base::search::first_place;
 use geometry::{bad_frame_size, bad_start, bad_subsampling, cell_count_unchecked};
 use mode_info::{ModeInfoLists, first_bad_block};
@@ -27,6 +27,7 @@ fn first_bad_level(levels: &[u8; 64]) -> Option<usize>
 }
 
 // The work, once the tests are made. The lists start at the row's first cell.
+#[tactic(auto, using(crate::specs::RowLaws::long, crate::specs::RowLaws::holds))]
 fn row_cells_unchecked(
     lists: ModeInfoLists,
     levels: &[u8; 64],
@@ -46,7 +47,7 @@ fn row_cells_unchecked(
 }
 
 // Takes any lists and any numbers. A refusal leaves every word as it was.
-#[tactic(auto, unfolding(crate::specs::Row::row, crate::specs::Row::too_short), using(base::specs::First::place_found, base::specs::First::no_place))]
+#[tactic(auto, unfolding(crate::specs::Row::row, crate::specs::Row::too_short), using(base::specs::First::place_found, base::specs::First::no_place, geometry::specs::FrameLaws::sized, geometry::specs::FrameLaws::started, crate::specs::RowLaws::long))]
 pub fn row_cells(
     lists: ModeInfoLists,
     levels: &[u8; 64],

@@ -30,22 +30,11 @@ word_is m levels limits subx suby k e h =
 pub loop-k-init : goal.loop-k-init
 loop-k-init c = (refl, filled_none _ _ _)
 
-pub at_unchecked-requires : goal.at_unchecked-requires
-at_unchecked-requires c =
-    let h : c.loop-k.k < c.args.count = omega arith in
-    holds _ _ _ _ (long _ _ _ c.requires.1) h
-
 pub word_unchecked-requires : goal.word_unchecked-requires
 word_unchecked-requires c =
     let h : c.loop-k.k < c.args.count = omega arith in
     let s = sound (lists_of c.args.lists) _ c.requires.2 c.loop-k.k h in
     rw c.at_unchecked.ensures (s.size, s.tx)
-
-pub offset_bounds-cells-k : goal.offset_bounds-cells-k
-offset_bounds-cells-k c = let l = long _ _ _ c.requires.1 in let e = l.cells in search rules
-
-pub bounds-cells-k : goal.bounds-cells-k
-bounds-cells-k c = let l = long _ _ _ c.requires.1 in let e = l.cells in omega arith
 
 pub loop-k-preserved : goal.loop-k-preserved
 loop-k-preserved c =
