@@ -1,9 +1,9 @@
 -- Laws of joining, for any list of runs: what a list of joined runs has in common with the list that it comes from.
 -- Assumes nothing.
 use Rattle.std.specs.Prelude.{◌≡◌, refl, ◌⊎◌, Bool, true, false, cond, ℕ, suc, ◌+◌, ◌≤◌, eqb, leb, length}
-use Rattle.std.proofs.Common.{sym, ap, ◌∙◌, inl, inr, true≢false, arith, eqb-true, eq-eqb, leb-true, le-leb}
+use Rattle.std.proofs.Common.{sym, ap, ◌∙◌, inl, inr, true≢false, arith, eqb-true, eq-eqb, leb-true, le-leb, List, [], ◌∷◌, ◌++◌, append_assoc}
 use Rattle.std.proofs.Math.Bool.{and-eq-true_iff}
-use mathlib.Core.List.{List, [], ◌∷◌, ◌++◌, append_assoc, Memᴰ}
+use mathlib.Core.List.{Memᴰ}
 use Rattle.order.specs.Grid.{strip, strip_split}
 use Rattle.decided.specs.Decided.{Position, position}
 use Rattle.decided.specs.Runs.{joins, longer, joined_from, joined, positions_of, all_positions}

@@ -3,9 +3,9 @@
 -- Assumes nothing.
 use Rattle.std.specs.Prelude.{◌≡◌, refl, true, false, cond, ◌&&◌, ℕ, ◌+◌, ◌≤◌, ◌<◌, ltb, length}
 use Rattle.std.proofs.Math.Path.{sym, ap}
-use Rattle.std.proofs.Common.{◌∙◌, arith}
+use Rattle.std.proofs.Common.{◌∙◌, arith, List}
 use Rattle.std.proofs.Math.Bool.{Bool}
-use mathlib.Core.List.{List, Memᴰ}
+use mathlib.Core.List.{Memᴰ}
 use Rattle.std.proofs.Math.Dec.{ltb→lt}
 use Rattle.decisions.specs.Decision.{decision}
 use Rattle.decisions.specs.DecisionLaws.{decision_size, decision_level}

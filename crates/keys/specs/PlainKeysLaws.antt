@@ -1,9 +1,8 @@
 -- The keys and words of one edge pair, behind those of the pairs before it.
 -- Assumes nothing.
 use Rattle.std.specs.Prelude.{◌≡◌, Bool, true, false, cond, ◌||◌, List, ℕ, ◌+◌, ◌*◌, ◌/◌, ◌%◌, ◌<◌, length, get_or}
-use Rattle.std.proofs.Common.{◌∙◌, zero-add, mul-le-mul}
+use Rattle.std.proofs.Common.{◌∙◌, zero-add, mul-le-mul, arith}
 use Rattle.std.proofs.Math.Nat.{add-zero}
-use native.Mathlib.Omega.{arith}
 use Rattle.base.specs.Filled.{filled, filled_join, filled_same}
 use Rattle.base.specs.First.{found}
 use Rattle.base.specs.FirstLaws.{found_join, found_same}
