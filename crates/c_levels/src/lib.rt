@@ -9,7 +9,7 @@ ghost use Rattle.c_border.specs.Border.{numbers_of};
 ghost use Rattle.c_levels.specs.LevelEntry.{delta_at, params_of, segments_of, level_entry};
 
 use base::fault::Fault;
-use c_border::Refusal;
+use c_border::{Refusal, refusal_of};
 use frame_header::{LoopFilterParams, SegmentationParams};
 use levels::loop_filter::level_table;
 use std::array;
@@ -66,6 +66,7 @@ fn segmentation_params(
 }
 
 // Writes the frame's level table to the first 64 of levels, where it accepts its arguments.
+#[tactic(auto, unfolding(crate::specs::LevelEntry::level_entry, levels::specs::Levels::level_table, levels::specs::Levels::frame_init))]
 pub fn springspade_level_table(
     level: u8,
     delta_enabled: bool,
@@ -101,10 +102,7 @@ pub fn springspade_level_table(
     match level_table(lf, seg) {
         Ok(table) => {
             store_levels(&table.levels, levels);
-            Refusal {
-                number: 0,
-                place: 0,
-            }
+            refusal_of(Ok(()))
         }
         Err(fault) => Refusal::from(fault),
     }
