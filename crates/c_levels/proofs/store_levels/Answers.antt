@@ -1,5 +1,5 @@
 use Rattle.std.proofs.Common.{ap, ◌∙◌, sym, ◌++◌, drop, List, ℕ, arith, length-take-le}
-use lib.Seq.{take_all}
+use Rattle.std.proofs.lemmas.List.{take_all}
 use Rattle.c_levels.proofs.store_levels.Goals as goal
 
 pub copy_from_slice-requires : goal.copy_from_slice-requires
