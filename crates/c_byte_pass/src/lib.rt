@@ -1,5 +1,5 @@
 // One pass over one superblock of a plane of bytes.
-// The crate springspade exports its functions to C, and says what their arguments are.
+// The crate springspade exports its functions to C, and says what their arguments are: plain numbers and lists, as C lends them.
 #![tactic(auto)]
 
 ghost use Rattle.std.specs.Prelude.{◌≡◌};

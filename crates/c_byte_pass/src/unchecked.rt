@@ -12,10 +12,12 @@ use decided::superblock_of;
 use geometry::pass_numbers::PassNumbers;
 use pass_edges::pass_of;
 use positions::PlacedSuperblock;
+use superblock_pass::setting::PassSetting;
 use superblock_pass::superblock_loop_filter_unchecked;
 use window::WindowShape;
 
 // As springspade_pass_bytes, without its tests and without an answer, and with cells as springspade_row packs them.
+// Plain parameters, since C calls it.
 pub fn springspade_pass_bytes_unchecked(
     samples: &mut [u8],
     cells: &[u32],
@@ -55,14 +57,12 @@ pub fn springspade_pass_bytes_unchecked(
         pass,
     };
     let s = superblock_of(n);
-    superblock_loop_filter_unchecked(
-        samples,
-        g,
-        cells,
-        PlacedSuperblock { of: s },
-        pass_of(pass),
-        0 < plane,
-        Sharpness { level: sharpness },
-        Depth { bits: 8 },
-    );
+    let t = PassSetting {
+        s: PlacedSuperblock { of: s },
+        pass: pass_of(pass),
+        chroma: 0 < plane,
+        sharpness: Sharpness { level: sharpness },
+        depth: Depth { bits: 8 },
+    };
+    superblock_loop_filter_unchecked(samples, g, cells, t);
 }

@@ -11,6 +11,7 @@ use record_pass::pass_records;
 use window::WindowShape;
 
 // As springspade_pass, over cell records in place of words, with the numbers behind the window in a record.
+// Plain parameters, since C calls it.
 pub fn springspade_pass_records(
     samples: &mut [u16],
     records: &[CellRecord],

@@ -10,6 +10,7 @@ use record_row::{RowNumbers, row_records};
 use row::mode_info::ModeInfoLists;
 
 // As springspade_row, into cell records in place of words, with the numbers in a record.
+// Plain parameters, since C calls it.
 pub fn springspade_row_records(
     mi_sizes: &[u8],
     tx_sizes: &[u8],

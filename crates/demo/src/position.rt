@@ -27,6 +27,7 @@ fn print_edge(rt: &impl Print, edge: usize) -> Result<()> {
 // Edge 0 is the frame's border, edges 1 and 3 lie inside the blocks, edge 2 between them.
 pub(crate) fn print_edges(rt: &impl Print) -> Result<()> {
     println!(rt; "vertical edges of the luma plane, at its first row")?;
+    // The number of the edge is what is asked for and printed: no list is walked.
     for edge in 0..4 {
         print_edge(rt, edge)?;
     }

@@ -22,6 +22,7 @@ pub(crate) fn print_line(rt: &impl Print) -> Result<()> {
     println!(rt; "line from p7 to q7, depth 8, level 32 sharpness 0")?;
     print!(rt; "before:")?;
     print_samples(rt, &STEP)?;
+    // The number of the size is what is asked for and printed: no list is walked.
     for size in 0..3 {
         let mut t = STEP;
         sample_filtering(&mut t, 8, size, found.limit, found.blimit, found.thresh)?;

@@ -4,8 +4,8 @@ use crate::step::print_samples;
 use anyhow::Result;
 use base::fault::Fault;
 use geometry::pass_numbers::PassNumbers;
-use superblock_pass::superblock_loop_filter_cells;
 use std::array;
+use superblock_pass::superblock_loop_filter_cells;
 use window::WindowShape;
 
 // A cell of the row without its level.
@@ -26,8 +26,8 @@ fn superblock() -> [u16; 128] {
 }
 
 fn print_rows(rt: &impl Print, samples: &[u16; 128]) -> Result<()> {
-    for row in 0..8 {
-        print_samples(rt, &samples[16 * row..16 * row + 16])?;
+    for row in samples.chunks(16) {
+        print_samples(rt, row)?;
     }
     Ok(())
 }

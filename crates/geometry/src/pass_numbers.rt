@@ -1,6 +1,6 @@
 // The numbers of a pass, which travel together.
 
-// The frame's, the superblock's, and which plane and pass. Any are taken: the tests of a pass say what is refused.
+// The frame's, the superblock's, and which plane and pass. Plain numbers, laid out for C: any are taken, and a pass tests them.
 #[repr(C)]
 #[derive(Clone, Copy)]
 pub struct PassNumbers {

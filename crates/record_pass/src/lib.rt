@@ -28,8 +28,8 @@ fn store_word(words: &mut [u32], i: usize, c: CellRecord)
 fn fill(records: &[CellRecord], words: &mut [u32])
     ensures { words.new ≡ filled (record_word records.now) 0 (length records.now) words.old }
 {
-    for i in 0..records.len() {
-        store_word(&mut *words, i, records[i]);
+    for (i, record) in records.iter().enumerate() {
+        store_word(&mut *words, i, *record);
     }
 }
 

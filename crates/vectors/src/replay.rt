@@ -65,6 +65,7 @@ fn tally_of<R: Record, F: Fn(&R) -> bool>(input: &mut impl Read, is_equal: F) ->
 {
     let mut equal = 0;
     let mut different = None;
+    // Counts what is read, up to the bound that ends it: no list is walked.
     for records in 0..MOST_RECORDS {
         let Some(is_same) = next_equal(input, &is_equal)? else {
             return Ok(Tally {

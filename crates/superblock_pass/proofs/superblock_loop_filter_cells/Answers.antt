@@ -27,16 +27,16 @@ returns-in_err-number_faults g c =
     let e = err_from_is_err_and c.from_residual.result c.from_residual.ensures.1 in
     rw (tested _, e.1, e.2) (refl, refl)
 
-pub invariant_of-test_lists_and_filter : goal.invariant_of-test_lists_and_filter
-invariant_of-test_lists_and_filter g c =
+pub invariant_of-t : goal.invariant_of-t
+invariant_of-t g c =
     let n = passed_by c.args.n _ _ c.in_ok-number_faults.ensures in
     rw c.superblock_of.ensures (record { placed = n.placed_at _ _ })
 
-pub invariant_of-test_lists_and_filter-2 : goal.invariant_of-test_lists_and_filter-2
-invariant_of-test_lists_and_filter-2 g c = record { small = (passed_by c.args.n _ _ c.in_ok-number_faults.ensures).sharpness_fits }
+pub invariant_of-t-2 : goal.invariant_of-t-2
+invariant_of-t-2 g c = record { small = (passed_by c.args.n _ _ c.in_ok-number_faults.ensures).sharpness_fits }
 
-pub invariant_of-test_lists_and_filter-3 : goal.invariant_of-test_lists_and_filter-3
-invariant_of-test_lists_and_filter-3 g c =
+pub invariant_of-t-3 : goal.invariant_of-t-3
+invariant_of-t-3 g c =
     let n = passed_by c.args.n _ _ c.in_ok-number_faults.ensures in
     record { known = admits-supported _ _ (rw c.admits.ensures at n.depth_known) }
 

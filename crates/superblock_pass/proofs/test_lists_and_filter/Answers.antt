@@ -8,8 +8,8 @@ use Rattle.superblock_pass.proofs.test_lists_and_filter.Goals as goal
 pub test_levels_and_filter-requires : goal.test_levels_and_filter-requires
 test_levels_and_filter-requires g c =
     let a = c.args in
-    let l = lent_passed a.g a.s.of a.depth.bits (g.C.Words.words a.cells) (g.S.PlaneSample.values a.samples.now) _ (c.in_ok-list_faults_unchecked.ensures (accepted [])) in
-    (record { window = l.1; range = tested_range _ _ _ l.2; placed = a.s.placed; cells = c.requires.0; sharpness = a.sharpness.small; depth = a.depth.known }, c.requires.1)
+    let l = lent_passed a.g a.t.s.of a.t.depth.bits (g.C.Words.words a.cells) (g.S.PlaneSample.values a.samples.now) _ (c.in_ok-list_faults_unchecked.ensures (accepted [])) in
+    (record { window = l.1; range = tested_range _ _ _ l.2; placed = a.t.s.placed; cells = c.requires.0; sharpness = a.t.sharpness.small; depth = a.t.depth.known }, c.requires.1)
 
 pub returns : goal.returns
 returns g c = answers_on _ _ _ _ _ (c.in_ok-list_faults_unchecked.ensures _) c.test_levels_and_filter.ensures

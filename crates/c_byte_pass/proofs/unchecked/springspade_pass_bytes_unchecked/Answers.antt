@@ -4,20 +4,20 @@ use Rattle.base.specs.Width.{Byte}
 use Rattle.pass.specs.PassRange.{accepted_ready}
 use Rattle.c_byte_pass.proofs.unchecked.springspade_pass_bytes_unchecked.Goals as goal
 
-pub invariant_of-superblock_loop_filter_unchecked : goal.invariant_of-superblock_loop_filter_unchecked
-invariant_of-superblock_loop_filter_unchecked c =
+pub invariant_of-t : goal.invariant_of-t
+invariant_of-t c =
     let a = c.args in
     let r = accepted_ready Byte _ a.sharpness 8 a.sub_x a.sub_y a.mi_cols a.mi_rows a.mi_row a.mi_col a.plane a.pass a.cells.now a.samples.now _ c.requires in
     rw c.superblock_of-s.ensures (record { placed = r.placed })
 
-pub invariant_of-superblock_loop_filter_unchecked-2 : goal.invariant_of-superblock_loop_filter_unchecked-2
-invariant_of-superblock_loop_filter_unchecked-2 c =
+pub invariant_of-t-2 : goal.invariant_of-t-2
+invariant_of-t-2 c =
     let a = c.args in
     let r = accepted_ready Byte _ a.sharpness 8 a.sub_x a.sub_y a.mi_cols a.mi_rows a.mi_row a.mi_col a.plane a.pass a.cells.now a.samples.now _ c.requires in
     record { small = r.sharpness }
 
-pub invariant_of-superblock_loop_filter_unchecked-3 : goal.invariant_of-superblock_loop_filter_unchecked-3
-invariant_of-superblock_loop_filter_unchecked-3 c =
+pub invariant_of-t-3 : goal.invariant_of-t-3
+invariant_of-t-3 c =
     let a = c.args in
     let r = accepted_ready Byte _ a.sharpness 8 a.sub_x a.sub_y a.mi_cols a.mi_rows a.mi_row a.mi_col a.plane a.pass a.cells.now a.samples.now _ c.requires in
     record { known = r.depth }
