@@ -3,7 +3,6 @@
 
 ghost use Rattle.std.specs.List.{fold};
 ghost use Rattle.std.specs.Prelude.{◌≡◌, get_or, ◌||◌, leb, false};
-ghost use Rattle.byte_lanes.specs.ByteLanes.{Keys};
 ghost use Rattle.lane_runs.specs.Spread.{SpacedRun};
 ghost use Rattle.lanes.specs.KeyLine.{key_line};
 ghost use Rattle.window.specs.InsideRun.{plain_lines};
@@ -12,6 +11,7 @@ ghost use Rattle.byte_chunks.specs.Chunk.{any_large};
 
 use base::sharpness::Sharpness;
 use byte_lanes::filter_byte_lanes_unchecked;
+use byte_lanes::lane_keys::LaneKeys;
 use byte_rows::{load_lanes_unchecked, store_lanes_unchecked};
 use tap_places::tap_run::TapRun;
 
@@ -26,16 +26,16 @@ fn any_large(keys: &[u8; 16]) -> bool
 pub fn filter_chunk_unchecked(
     samples: &mut [u8],
     run: TapRun,
-    keys: &[u8; 16],
+    keys: &LaneKeys,
     sharpness: Sharpness,
 )
-    requires { SpacedRun run.at run.step run.along run.n samples.old × Keys keys.now }
-    ensures { samples.new ≡ in_turn (plain_lines run.at run.step run.along (λ k. key_line sharpness.level 8 (get_or keys.now k 0))) run.n samples.old }
+    requires { SpacedRun run.at run.step run.along run.n samples.old }
+    ensures { samples.new ≡ in_turn (plain_lines run.at run.step run.along (λ k. key_line sharpness.level 8 (get_or keys.now.of k 0))) run.n samples.old }
 {
     if run.n == 0 {
         return;
     }
-    let all = any_large(keys);
+    let all = any_large(&keys.of);
     let mut t = [0u8; 256];
     load_lanes_unchecked(&mut t, samples, run, all);
     let changed = filter_byte_lanes_unchecked(&mut t, keys, sharpness);

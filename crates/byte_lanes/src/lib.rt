@@ -3,11 +3,14 @@
 
 ghost use Rattle.std.specs.Prelude.{◌≡◌, ◌≤◌, ◌<◌, length};
 ghost use Rattle.lanes.specs.Lanes.{EachLane};
-ghost use Rattle.byte_lanes.specs.ByteLanes.{Keys, ArmsTo, has_arm, arm_lane, narrow_lane, wide_lane, Filtered};
+ghost use Rattle.byte_lanes.specs.ByteLanes.{ArmsTo, has_arm, arm_lane, narrow_lane, wide_lane, Filtered};
+
+pub mod lane_keys;
 
 use base::sharpness::Sharpness;
 use byte_filters::{byte_four, byte_fourteen, byte_six, lane_arm_unchecked};
 use lane::Lane;
+use lane_keys::LaneKeys;
 use lanes::table::{each_lane_unchecked, lane_at_unchecked};
 
 // What filtering changed: some lane, and some tap outside p3 to q3.
@@ -18,14 +21,13 @@ pub struct Changed {
 }
 
 // The filter of each lane by its key.
-fn lane_arms(t: &[u8; 256], keys: &[u8; 16], sharpness: Sharpness) -> [u8; 16]
-    requires { Keys keys.now }
-    ensures { ArmsTo 16 sharpness.level keys.now t.now result }
+fn lane_arms(t: &[u8; 256], keys: &LaneKeys, sharpness: Sharpness) -> [u8; 16]
+    ensures { ArmsTo 16 sharpness.level keys.now.of t.now result }
 {
     // A loop: of array::from_fn the proof that each call sees the same table did not close.
     let mut arms = [0u8; 16];
     for l in 0..16 {
-        arms[l] = lane_arm_unchecked(lane_at_unchecked(t, l), keys[l], sharpness);
+        arms[l] = lane_arm_unchecked(lane_at_unchecked(t, l), keys.of[l], sharpness);
     }
     arms
 }
@@ -42,9 +44,9 @@ fn any_arm(arms: &[u8; 16], arm: u8) -> bool
 }
 
 // Filters each lane by its key. A loop that would change no lane is left out.
-pub fn filter_byte_lanes_unchecked(t: &mut [u8; 256], keys: &[u8; 16], sharpness: Sharpness) -> Changed
-    requires { (length t.old ≡ 256) × Keys keys.now }
-    ensures { Filtered sharpness.level keys.now t.old t.new result }
+pub fn filter_byte_lanes_unchecked(t: &mut [u8; 256], keys: &LaneKeys, sharpness: Sharpness) -> Changed
+    requires { length t.old ≡ 256 }
+    ensures { Filtered sharpness.level keys.now.of t.old t.new result }
 {
     let arms = lane_arms(t, keys, sharpness);
     let four = any_arm(&arms, 1);
@@ -52,7 +54,7 @@ pub fn filter_byte_lanes_unchecked(t: &mut [u8; 256], keys: &[u8; 16], sharpness
     let outer = any_arm(&arms, 3);
     if four {
         each_lane_unchecked(t, 16, |a: Lane<u8>, l: usize| {
-            byte_four(a, keys[l], arms[l])
+            byte_four(a, keys.of[l], arms[l])
         });
     }
     if six {

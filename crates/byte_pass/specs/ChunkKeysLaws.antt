@@ -7,6 +7,7 @@ use Rattle.std.specs.List.{fold}
 use Rattle.std.proofs.lemmas.List.{get_or-take, get_or-drop}
 use Rattle.base.specs.First.{found, found-false}
 use Rattle.base.specs.Filled.{filled_at}
+use Rattle.byte_lanes.specs.ByteLanes.{Keys}
 use Rattle.byte_chunks.specs.FoundLaws.{fold_found}
 use Rattle.keys.specs.Keyed.{key_for, Keyed}
 use Rattle.geometry.specs.Coordinates.{shr}
@@ -15,7 +16,7 @@ use Rattle.geometry.specs.declared.Superblock.{Superblock}
 use Rattle.pass.specs.Chunks.{key_along}
 use Rattle.pass_edges.specs.PassEdges.{along_sub, cell_len, edge_count, edge_len}
 use Rattle.pass_edges.specs.PassEdgesLaws.{edge_count_small}
-use Rattle.byte_pass.specs.ChunkKeys.{spread, ChunkKeys}
+use Rattle.byte_pass.specs.ChunkKeys.{spread, KeysAlong}
 
 spread_at : (at len : ℕ) (keys : List ℕ) (k : ℕ) → k < 16 → get_or (spread at len keys) k 0 ≡ get_or keys (at + k / len) 0
 unfolding spread
@@ -65,22 +66,25 @@ module _ (s : Superblock) (pass : Pass) (outer inner : List ℕ) (edge i : ℕ) 
   inner_along e = rw e
 
 module _ (s : Superblock) (pass : Pass) (outer inner : List ℕ) (edge m : ℕ) (keyed : Keyed outer inner) (few : edge < 16) (h : m < edge_len s pass / 16) where
-  -- from the keys of the edge's parity
+  c : Cells (cell_len s pass) m
+  c = cells s pass m h
+
+  -- the keys of a chunk, from the keys of the edge's parity
+  abbrev Made : (keys r : List ℕ) → Type 0
+  Made keys r = r ≡ spread (8 * (edge / 2) + 16 * m / cell_len s pass) (cell_len s pass) keys
+
+  at : (keys r : List ℕ) (k : ℕ) → Made keys r → k < 16 → get_or r k 0 ≡ get_or keys (8 * (edge / 2) + (16 * m + k) / cell_len s pass) 0
+  at keys r k e l =
+      ap (λ (x : List ℕ). get_or x k 0) e
+      ∙ spread_at _ _ keys k l
+      ∙ ap (λ (x : ℕ). get_or keys x 0) (omega (arith, c.place k l))
+
   from : (keys r : List ℕ) → ((i : ℕ) → get_or keys (8 * (edge / 2) + i / cell_len s pass) 0 ≡ key_along s pass outer inner edge i) → ((k : ℕ) → k < 64 → get_or keys k 0 < 192)
-      → r ≡ spread (8 * (edge / 2) + 16 * m / cell_len s pass) (cell_len s pass) keys → ChunkKeys s pass outer inner edge m r
-  from keys r is small e = record { are = λ k l. at k l ∙ is (16 * m + k); small = record { small = λ k l. rw (at k l) (small _ (omega (arith, c.among k l))) } }
-    where
-      c : Cells (cell_len s pass) m
-      c = cells s pass m h
+      → Made keys r → KeysAlong s pass outer inner edge m r × Keys r
+  from keys r is small e = (λ k l. at keys r k e l ∙ is (16 * m + k), record { small = λ k l. rw (at keys r k e l) (small _ (omega (arith, c.among k l))) })
 
-      at : (k : ℕ) → k < 16 → get_or r k 0 ≡ get_or keys (8 * (edge / 2) + (16 * m + k) / cell_len s pass) 0
-      at k l =
-          ap (λ (x : List ℕ). get_or x k 0) e
-          ∙ spread_at _ _ keys k l
-          ∙ ap (λ (x : ℕ). get_or keys x 0) (omega (arith, c.place k l))
-
-  pub outer_keys : (r : List ℕ) → edge % 2 ≡ 0 → r ≡ spread (8 * (edge / 2) + 16 * m / cell_len s pass) (cell_len s pass) outer → ChunkKeys s pass outer inner edge m r
+  pub outer_keys : (r : List ℕ) → edge % 2 ≡ 0 → r ≡ spread (8 * (edge / 2) + 16 * m / cell_len s pass) (cell_len s pass) outer → KeysAlong s pass outer inner edge m r × Keys r
   outer_keys r e = from outer r (λ i. outer_along s pass outer inner edge i e) keyed.even
 
-  pub inner_keys : (r : List ℕ) → edge % 2 ≡ 1 → r ≡ spread (8 * (edge / 2) + 16 * m / cell_len s pass) (cell_len s pass) inner → ChunkKeys s pass outer inner edge m r
+  pub inner_keys : (r : List ℕ) → edge % 2 ≡ 1 → r ≡ spread (8 * (edge / 2) + 16 * m / cell_len s pass) (cell_len s pass) inner → KeysAlong s pass outer inner edge m r × Keys r
   inner_keys r e = from inner r (λ i. inner_along s pass outer inner edge i e) keyed.odd

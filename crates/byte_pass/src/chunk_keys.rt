@@ -3,8 +3,9 @@ ghost use Rattle.std.specs.Prelude.{◌≡◌, not, ◌||◌, false, ℕ, slice_
 ghost use Rattle.std.specs.List.{fold};
 ghost use Rattle.pass.specs.Chunks.{key_along};
 ghost use Rattle.pass_edges.specs.PassEdges.{edge_count, edge_len};
-ghost use Rattle.byte_pass.specs.ChunkKeys.{spread, ChunkKeys};
+ghost use Rattle.byte_pass.specs.ChunkKeys.{spread, KeysAlong};
 
+use byte_lanes::lane_keys::LaneKeys;
 use geometry::{Pass, Superblock};
 use keys::Keys;
 use pass_edges::along;
@@ -36,16 +37,20 @@ fn edge_keys(keys: &[u8; 64], at: usize, len: usize, m: usize) -> [u8; 16]
 }
 
 // The keys of chunk m of an edge. The outer edges have the even numbers.
-pub(crate) fn chunk_keys(keys: &Keys, s: Superblock, pass: Pass, edge: usize, m: usize) -> [u8; 16]
+pub(crate) fn chunk_keys(keys: &Keys, s: Superblock, pass: Pass, edge: usize, m: usize) -> LaneKeys
     requires { (edge < edge_count s pass) × (m < edge_len s pass / 16) }
-    ensures { ChunkKeys s pass keys.now.outer keys.now.inner edge m result }
+    ensures { KeysAlong s pass keys.now.outer keys.now.inner edge m result.of }
 {
     let at = 8 * (edge / 2);
     let len = along(s, pass, 8);
     if edge % 2 == 0 {
-        return edge_keys(&keys.outer, at, len, m);
+        return LaneKeys {
+            of: edge_keys(&keys.outer, at, len, m),
+        };
     }
-    edge_keys(&keys.inner, at, len, m)
+    LaneKeys {
+        of: edge_keys(&keys.inner, at, len, m),
+    }
 }
 
 // Whether one of n cells from the place at on filters. By a fold: by `any` a pass without levels took 4 percent longer.

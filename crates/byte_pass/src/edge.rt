@@ -1,32 +1,26 @@
 // The edges of a pass over bytes, chunk by chunk.
-ghost use Rattle.std.specs.Prelude.{◌≡◌, ◌/◌, ◌<◌};
+ghost use Rattle.std.specs.Prelude.{◌≡◌, ◌/◌, ◌<◌, length};
 ghost use Rattle.pass.specs.Chunks.{edge_chunks, pass_chunks};
-ghost use Rattle.pass.specs.WorkLaws.{Able};
 ghost use Rattle.pass_edges.specs.PassEdges.{edge_count, edge_len};
+ghost use Rattle.window.specs.WindowLaws.{Lent};
 
 use crate::chunk::filter_chunk;
-use geometry::{Pass, Superblock};
+use crate::work::ByteWork;
+use base::sharpness::Sharpness;
+use geometry::Pass;
 use keys::Keys;
 use pass_edges::{edge_count, edge_len};
-use strength::{LimitTable, limits_table};
+use positions::PlacedSuperblock;
+use strength::limits_table;
 use window::WindowShape;
 
-fn filter_edge(
-    samples: &mut [u8],
-    g: WindowShape,
-    s: Superblock,
-    pass: Pass,
-    sharpness: u8,
-    limits: &LimitTable,
-    keys: &Keys,
-    edge: usize,
-)
-    requires { Able g s sharpness 8 samples.old × (edge < edge_count s pass) }
-    ensures { samples.new ≡ edge_chunks g s pass sharpness 8 keys.now.outer keys.now.inner edge (edge_len s pass / 16) samples.old }
+fn filter_edge(samples: &mut [u8], w: &ByteWork, keys: &Keys, edge: usize)
+    requires { Lent w.now.g (length samples.old) × (edge < edge_count w.now.s.of w.now.pass) }
+    ensures { samples.new ≡ edge_chunks w.now.g w.now.s.of w.now.pass w.now.sharpness.level 8 keys.now.outer keys.now.inner edge (edge_len w.now.s.of w.now.pass / 16) samples.old }
 {
-    let count = edge_len(s, pass) / 16;
-    for m in 0..count {
-        filter_chunk(samples, g, s, pass, sharpness, limits, keys, edge, m);
+    // Chunks are numbers here: an edge is no list that could be cut into them.
+    for m in 0..edge_len(w.s.of, w.pass) / 16 {
+        filter_chunk(samples, w, keys, edge, m);
     }
 }
 
@@ -34,17 +28,23 @@ fn filter_edge(
 pub(crate) fn filter_keys(
     samples: &mut [u8],
     g: WindowShape,
-    s: Superblock,
+    s: PlacedSuperblock,
     pass: Pass,
-    sharpness: u8,
+    sharpness: Sharpness,
     keys: &Keys,
 )
-    requires { Able g s sharpness 8 samples.old }
-    ensures { samples.new ≡ pass_chunks g s pass sharpness 8 keys.now.outer keys.now.inner (edge_count s pass) samples.old }
+    requires { Lent g (length samples.old) }
+    ensures { samples.new ≡ pass_chunks g s.of pass sharpness.level 8 keys.now.outer keys.now.inner (edge_count s.of pass) samples.old }
 {
-    let count = edge_count(s, pass);
-    let limits = limits_table();
-    for edge in 0..count {
-        filter_edge(samples, g, s, pass, sharpness, &limits, keys, edge);
+    let w = ByteWork {
+        g,
+        s,
+        pass,
+        sharpness,
+        limits: limits_table(),
+    };
+    // So are edges.
+    for edge in 0..edge_count(s.of, pass) {
+        filter_edge(samples, &w, keys, edge);
     }
 }

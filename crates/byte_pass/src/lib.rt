@@ -9,6 +9,7 @@ mod border;
 mod chunk;
 mod chunk_keys;
 mod edge;
+mod work;
 
 use base::sharpness::Sharpness;
 use edge::filter_keys;
@@ -29,5 +30,5 @@ pub fn filter_keys_unchecked(
     requires { Lent g (length samples.old) }
     ensures { FilteredBy g s.of pass sharpness.level 8 keys.now samples.old samples.new }
 {
-    filter_keys(samples, g, s.of, pass, sharpness.level, keys);
+    filter_keys(samples, g, s, pass, sharpness, keys);
 }

@@ -6,16 +6,16 @@ use Rattle.byte_lanes.proofs.filter_byte_lanes_unchecked.Goals as goal
 use Rattle.byte_lanes.proofs.filter_byte_lanes_unchecked.Goals.{Joined-four, Joined-six, Joined-outer, then-four, else-four, then-six, else-six, then-outer, else-outer}
 
 -- each stage, done or left out
-four : (c : Joined-four) → let any = c in let made = any in let a = made.args in Stage 1 (narrow_lane a.keys.now) made.lane_arms-arms.result a.t.now c.if-four.t any.any_arm-four.result
+four : (c : Joined-four) → let any = c in let made = any in let a = made.args in Stage 1 (narrow_lane a.keys.now.of) made.lane_arms-arms.result a.t.now c.if-four.t any.any_arm-four.result
 four c =
     let any = c in
     elim c.if-four.branch [
       | then-four w ↦
           let made = w.each_lane_unchecked.ensures in
-          let line : ℕ → List ℕ → List ℕ = arm_lane 1 (narrow_lane any.args.keys.now) any.lane_arms-arms.result in
+          let line : ℕ → List ℕ → List ℕ = arm_lane 1 (narrow_lane any.args.keys.now.of) any.lane_arms-arms.result in
           let done = made.filtered line (record { each = λ l a r h is gives. search (rules, of_calls) }) in
           stage_on w.if-four.true (rw (map-id, map-id) at done, made.long) w.t-is
-      | else-four w ↦ stage_off 1 any.any_arm-four.ensures w.if-four.false any.requires.0 w.t-is
+      | else-four w ↦ stage_off 1 any.any_arm-four.ensures w.if-four.false any.requires w.t-is
     ]
 
 six : (c : Joined-six) → let any = c in Stage 2 (wide_lane 3) any.lane_arms-arms.result c.if-four.t c.if-six.t any.any_arm-six.result
@@ -46,4 +46,4 @@ pub returns : goal.returns
 returns c =
     let any = c in
     let made = any in
-    lanes_filtered any.any_arm-outer.ensures made.requires.1 made.lane_arms-arms.ensures (four c.before.before) (six c.before) (fourteen c)
+    lanes_filtered any.any_arm-outer.ensures made.args.keys.now.keyed made.lane_arms-arms.ensures (four c.before.before) (six c.before) (fourteen c)

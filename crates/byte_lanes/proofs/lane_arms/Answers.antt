@@ -9,7 +9,7 @@ pub loop-l-init : goal.loop-l-init
 loop-l-init c = (c.told-t, refl, arms_none _)
 
 pub lane_arm_unchecked-requires : goal.lane_arm_unchecked-requires
-lane_arm_unchecked-requires c = c.requires.small c.loop-l.l (omega arith)
+lane_arm_unchecked-requires c = c.args.keys.now.keyed.small c.loop-l.l (omega arith)
 
 pub loop-l-preserved : goal.loop-l-preserved
 loop-l-preserved c =

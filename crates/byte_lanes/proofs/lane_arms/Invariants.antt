@@ -4,4 +4,4 @@ use Rattle.byte_lanes.specs.ByteLanes.{ArmsTo}
 use Rattle.byte_lanes.proofs.lane_arms.Given as goal
 
 abbrev pub invariant-loop-l : goal.invariant-loop-l
-invariant-loop-l l = (length l.t ≡ 256) × (length l.arms ≡ 16) × ArmsTo l.l l.sharpness.level l.keys l.t l.arms
+invariant-loop-l l = (length l.t ≡ 256) × (length l.arms ≡ 16) × ArmsTo l.l l.sharpness.level l.keys.of l.t l.arms

@@ -10,4 +10,4 @@ abbrev pub family : WindowShape → Pass → (x y sharpness : ℕ) (keys : List 
 family g pass x y sharpness keys first k = keyed_run g pass x y sharpness 8 (λ j. get_or keys j 0) (first + k)
 
 abbrev pub invariant-loop-j : goal.invariant-loop-j
-invariant-loop-j l = l.samples ≡ in_turn (family l.g l.start.pass l.start.x l.start.y l.sharpness l.keys l.first) l.j l.initial.samples
+invariant-loop-j l = l.samples ≡ in_turn (family l.w.g l.start.pass l.start.x l.start.y l.w.sharpness.level l.keys.of l.first) l.j l.initial.samples

@@ -7,9 +7,9 @@ pub returns-then-level-gt0 : goal.returns-then-level-gt0
 returns-then-level-gt0 c =
     let a = c.args in
     (simp map-id at c.filter_position_unchecked.ensures)
-    ∙ keyed_on a.sharpness 8 a.key a.g a.p.pass a.p.x a.p.y a.samples.now _ c.if-level-gt0.true c.strength_unchecked-strength.ensures
+    ∙ keyed_on a.w.now.sharpness.level 8 a.key a.w.now.g a.p.pass a.p.x a.p.y a.samples.now _ c.if-level-gt0.true c.strength_unchecked-strength.ensures
 
 pub returns-else-level-gt0 : goal.returns-else-level-gt0
 returns-else-level-gt0 c =
     let a = c.args in
-    sym (keyed_off a.sharpness 8 a.key a.g a.p.pass a.p.x a.p.y a.samples.now (omega (arith, c.if-level-gt0.false)))
+    sym (keyed_off a.w.now.sharpness.level 8 a.key a.w.now.g a.p.pass a.p.x a.p.y a.samples.now (omega (arith, c.if-level-gt0.false)))
