@@ -6,10 +6,9 @@ use Rattle.std.proofs.Math.Path.{refl, sym, ap}
 use Rattle.std.proofs.Common.{◌∙◌, add_assoc, add-one, lt-ltb, le-ltb}
 use Rattle.std.proofs.Math.Bool.{cond}
 use mathlib.Core.List.{List, ◌++◌, append-nil, Memᴰ}
-use Prim.Native.Nat.{ℕ, zero, suc, ◌+◌, ◌*◌, ◌/◌, ◌%◌, ◌^◌, ◌≤◌, ◌<◌}
+use Prim.Native.Nat.{ℕ, zero, suc, ◌+◌, ◌*◌, ◌/◌, ◌%◌, ◌≤◌, ◌<◌}
 use Rattle.std.proofs.Math.Decide.{dec_lt}
 use native.Mathlib.Omega.{arith}
-use Rattle.base.specs.Depth.{supported}
 use Rattle.decided.specs.Decided.{Position, position, Setting, decision_at, is_decided, decided, filters}
 use Rattle.decided.proofs.KeyRunLaws.{key_for_lem, key_level, key_size}
 use Rattle.decisions.specs.Decision.{decision}
@@ -31,7 +30,6 @@ use Rattle.positions.specs.Positions.{plane_x, plane_y}
 use Rattle.strength.specs.Strength.{strength_of}
 use Rattle.strength.specs.declared.FilterStrength.{FilterStrength}
 use Rattle.window.specs.InsideRun.{inside_run, first_tap, tap_step, along_step, plain_lines, lines-plain}
-use Rattle.window.specs.RangeLaws.{InRange, Keeps, position_range}
 use Rattle.window.specs.Reach.{stencil_idle}
 use Rattle.window.specs.Stencil.{applied, in_turn}
 use Rattle.window.specs.StencilLaws.{in_turn_none, in_turn-length, in_turn_split, in_turn_same, in_turn_idle}
@@ -39,15 +37,11 @@ use Rattle.window.specs.Window.{stencil, along_x, along_y}
 use Rattle.window.specs.declared.WindowShape.{WindowShape}
 use Rattle.pass.specs.Pass.{line_of, step, superblock_loop_filter}
 use Rattle.pass.specs.Chunks.{key_stencil, keyed_run, key_along, keyed, chunk, edge_chunks, pass_chunks}
-use Rattle.pass.specs.WorkLaws.{Able, able_after, either, line_keeps, plane_along}
+use Rattle.pass.specs.WorkLaws.{plane_along}
 
 -- ---- the line filter of a key, and the position that is filtered by it
 
 module _ (sharpness depth key : ℕ) where
-  key_keeps : supported depth ≡ true → Keeps (2 ^ depth) (key_line sharpness depth key)
-  unfolding key_line
-  key_keeps deep = either (Keeps (2 ^ depth)) (ltb 0 (key % 64)) (line_keeps depth (key / 64) _ _ _ deep) (record { keep = λ taps h. h })
-
   module _ (g : WindowShape) (pass : Pass) (x y : ℕ) (samples : List ℕ) where
     -- what the code does where the level is above 0, and where it is 0
     pub keyed_on : (st : FilterStrength) → 0 < key % 64 → st ≡ strength_of (key % 64) sharpness
@@ -100,16 +94,6 @@ module _ (g : WindowShape) (s : Superblock) (pass : Pass) (sharpness depth : ℕ
     unfolding chunk
     chunk-length n samples = in_turn-length _ n samples
 
-    chunk_range : (n : ℕ) (samples : List ℕ) → Able g s sharpness depth samples → InRange g (2 ^ depth) (chunk g s pass sharpness depth outer inner edge first n samples)
-    unfolding chunk in_turn
-    chunk_range zero samples able = able.range
-    chunk_range (suc n) samples able =
-        let key = key_along s pass outer inner edge (first + n) in
-        position_range g (2 ^ depth) pass _ _ (ltb 0 (key % 64)) (key_line sharpness depth key) _ able.window.wide able.window.tall (key_keeps sharpness depth key able.deep) (chunk_range n samples able)
-
-    chunk_able : (n : ℕ) (samples : List ℕ) → Able g s sharpness depth samples → Able g s sharpness depth (chunk g s pass sharpness depth outer inner edge first n samples)
-    chunk_able n samples able = able_after able (chunk-length n samples) (chunk_range n samples able)
-
     -- the same from the plane's coordinates of the first position and a list of keys
     module _ (x y n : ℕ) (keys : ℕ → ℕ) (samples : List ℕ) (ex : x ≡ plane_x s pass edge first) (ey : y ≡ plane_y s pass edge first)
         (named : (k : ℕ) → k < n → keys k ≡ key_along s pass outer inner edge (first + k)) where
@@ -143,9 +127,6 @@ module _ (g : WindowShape) (s : Superblock) (pass : Pass) (sharpness depth : ℕ
   pub edge_chunks-length : (edge m : ℕ) (samples : List ℕ) → length (edge_chunks g s pass sharpness depth outer inner edge m samples) ≡ length samples
   edge_chunks-length edge m samples = ap length (edge_chunks_whole edge m samples) ∙ chunk-length edge 0 (16 * m) samples
 
-  pub edge_chunks_able : (edge m : ℕ) (samples : List ℕ) → Able g s sharpness depth samples → Able g s sharpness depth (edge_chunks g s pass sharpness depth outer inner edge m samples)
-  edge_chunks_able edge m samples able = rw (edge_chunks_whole edge m samples) (chunk_able edge 0 (16 * m) samples able)
-
   pub pass_chunks_none : (samples : List ℕ) → samples ≡ pass_chunks g s pass sharpness depth outer inner 0 samples
   unfolding pass_chunks
   pass_chunks_none samples = refl
@@ -154,11 +135,6 @@ module _ (g : WindowShape) (s : Superblock) (pass : Pass) (sharpness depth : ℕ
       → between ≡ pass_chunks g s pass sharpness depth outer inner n before → after ≡ pass_chunks g s pass sharpness depth outer inner (n + 1) before
   unfolding pass_chunks
   pass_chunks_next n before between after e h = rw (add-one n) (e ∙ ap (edge_chunks g s pass sharpness depth outer inner n (edge_len s pass / 16)) h)
-
-  pub pass_chunks_able : (n : ℕ) (samples : List ℕ) → Able g s sharpness depth samples → Able g s sharpness depth (pass_chunks g s pass sharpness depth outer inner n samples)
-  unfolding pass_chunks
-  pass_chunks_able zero samples able = able
-  pass_chunks_able (suc n) samples able = edge_chunks_able n (edge_len s pass / 16) _ (pass_chunks_able n samples able)
 
   pub pass_chunks-length : (n : ℕ) (samples : List ℕ) → length (pass_chunks g s pass sharpness depth outer inner n samples) ≡ length samples
   unfolding pass_chunks

@@ -92,22 +92,6 @@ unfolding run_filtered
 filtered_on g s pass sharpness depth a level x y st ex ey es samples result h =
     h ∙ (λ i. in_turn (run_of g pass (ex i) (ey i) (sample_filtering depth a.size (es i).limit (es i).blimit (es i).thresh)) a.count samples) ∙ (rw (lt-ltb 0 a.level level))
 
--- what this asks for: the work's needs but the cells
-pub record Able (g : WindowShape) (s : Superblock) (sharpness depth : ℕ) (samples : List ℕ) : Type 0 where
-  pub window : Lent g (length samples)
-  pub range : InRange g (2 ^ depth) samples
-  pub placed : Placed s
-  pub sharp : sharpness ≤ 7
-  pub deep : supported depth ≡ true
-
-pub ready_able : (g : WindowShape) (t : Setting) (samples : List ℕ) → Ready g t samples → Able g t.superblock t.sharpness t.depth samples
-ready_able g t samples r = record { window = r.window; range = r.range; placed = r.placed; sharp = r.sharpness; deep = r.depth }
-
--- the work may go on
-pub able_after : {g : WindowShape} {s : Superblock} {sharpness depth : ℕ} {before after : List ℕ} → Able g s sharpness depth before → length after ≡ length before → InRange g (2 ^ depth) after
-    → Able g s sharpness depth after
-able_after able long range = record { window = rw long able.window; range = range; placed = able.placed; sharp = able.sharp; deep = able.deep }
-
 -- what holds of both cases of a test
 pub either : {A : Type 0} (P : A → Type 0) (b : Bool) {x y : A} → P x → P y → P (cond b x y)
 either P true p q = p

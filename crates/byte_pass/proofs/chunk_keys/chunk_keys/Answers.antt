@@ -1,4 +1,4 @@
-use Rattle.std.proofs.Common.{arith, ◌<◌}
+use Rattle.std.proofs.Common.{arith}
 use Rattle.pass_edges.specs.PassEdgesLaws.{edge_count_small}
 use Rattle.byte_pass.specs.ChunkKeysLaws.{asked, outer_keys, inner_keys}
 use Rattle.byte_lanes.specs.ByteLanes.{Keys}

@@ -1,4 +1,4 @@
-use Rattle.std.proofs.Common.{ap, ◌∙◌, arith, length}
+use Rattle.std.proofs.Common.{ap, ◌∙◌, length}
 use Rattle.pass.specs.ChunkLaws.{edge_chunks_none, edge_chunks_next, edge_chunks-length}
 use Rattle.byte_pass.proofs.edge.filter_edge.Goals as goal
 

@@ -1,4 +1,4 @@
-use Rattle.std.proofs.Common.{ap, ◌∙◌, arith, length}
+use Rattle.std.proofs.Common.{ap, ◌∙◌, length}
 use Rattle.pass.specs.ChunkLaws.{pass_chunks_none, pass_chunks_next, pass_chunks-length}
 use Rattle.byte_pass.proofs.edge.filter_keys.Goals as goal
 

@@ -1,8 +1,8 @@
-use Rattle.std.proofs.Common.{arith, ap, sym, ◌∙◌, ℕ, List}
+use Rattle.std.proofs.Common.{arith, ap, sym, ◌∙◌, List}
 use Rattle.decided.specs.RunsLeft.{runs_left}
 use Rattle.decided.specs.declared.EdgeRun.{EdgeRun}
 use Rattle.window.specs.RangeLaws.{range_wider}
-use Rattle.pass.specs.WorkLaws.{after_run, depth_12, filtered_on, run_filtered, runs_filtered, runs_next, runs_none}
+use Rattle.pass.specs.WorkLaws.{after_run, depth_12, filtered_on, runs_filtered, runs_next, runs_none}
 use Rattle.pass.proofs.edge.filter_keys.Goals as goal
 
 pub filter_run_unchecked-requires : goal.filter_run_unchecked-requires
