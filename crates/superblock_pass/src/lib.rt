@@ -42,7 +42,7 @@ pub fn superblock_loop_filter_unchecked<S: PassSample, C: Words>(
     requires { Ready g (setting_by t (C.words cells)) (S.values samples.old) × (admits S.width t.depth.bits ≡ true) }
     ensures { S.values samples.new ≡ superblock_loop_filter g (setting_by t (C.words cells)) t.pass (S.values samples.old) }
 {
-    let keys = keys_unchecked(cells, t.s.of, t.pass, t.chroma);
+    let keys = keys_unchecked(cells, t.s, t.pass, t.chroma);
     S::filter_keys_unchecked(samples, g, t, &keys);
 }
 
@@ -56,7 +56,7 @@ fn test_levels_and_filter<S: PassSample, C: Words>(
     requires { Ready g (setting_by t (C.words cells)) (S.values samples.old) × (admits S.width t.depth.bits ≡ true) }
     ensures { Answers (refuse_first (levelless t.s.of t.pass t.chroma (C.words cells)) (64 * edge_count t.s.of t.pass) 14 (accepted (superblock_loop_filter g (setting_by t (C.words cells)) t.pass (S.values samples.old)))) (returned_of result) (S.values samples.old) (S.values samples.new) }
 {
-    let keys = keys_unchecked(cells, t.s.of, t.pass, t.chroma);
+    let keys = keys_unchecked(cells, t.s, t.pass, t.chroma);
     if let Some(place) = keys.lacking {
         return Err(Fault::NoLevel(place));
     }
