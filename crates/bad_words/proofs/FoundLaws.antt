@@ -1,7 +1,7 @@
 -- A search by the library's methods is the search that definitions speak of.
 -- Assumes nothing.
 use Rattle.std.specs.Prelude.{◌≡◌, refl, Bool, true, false, ◌||◌, ℕ, zero, suc, ◌+◌, ◌<◌, Option, Some, None}
-use Rattle.std.proofs.Common.{sym, ◌∙◌, add-zero, arith}
+use Rattle.std.proofs.Common.{◌∙◌, add-zero, arith}
 use Rattle.std.specs.List.{fold, range_with_len}
 use Rattle.base.specs.First.{found, first_found, found_none}
 use Rattle.base.specs.FirstLaws.{found_at, found_join, found_same, first_unique}

@@ -1,19 +1,12 @@
 -- The keys and words of one edge pair, behind those of the pairs before it.
 -- Assumes nothing.
-use Rattle.std.specs.Prelude.{◌≡◌, Bool, true, false, cond, ◌||◌, List, ℕ, ◌+◌, ◌*◌, ◌/◌, ◌%◌, ◌<◌, length, get_or}
-use Rattle.std.proofs.Common.{◌∙◌, zero-add, mul-le-mul, arith}
+use Rattle.std.specs.Prelude.{◌≡◌, Bool, ◌||◌, List, ℕ, ◌+◌, ◌*◌, ◌/◌, ◌%◌, ◌<◌, length, get_or}
+use Rattle.std.proofs.Common.{zero-add, arith}
 use Rattle.std.proofs.Math.Nat.{add-zero}
 use Rattle.base.specs.Filled.{filled, filled_join, filled_same}
 use Rattle.base.specs.First.{found}
 use Rattle.base.specs.FirstLaws.{found_join, found_same}
-use Rattle.geometry.specs.Frame.{rows_from, cells_from}
-use Rattle.geometry.specs.declared.Pass.{Pass}
-use Rattle.geometry.specs.declared.Pass.TheVariants.{Vertical, Horizontal}
-use Rattle.geometry.specs.declared.Superblock.{Superblock}
-use Rattle.positions.specs.Positions.{Placed}
-use Rattle.word_bytes.specs.WordBytes.{bytes_at, words_of}
-use Rattle.word_bytes.specs.WordBytesLaws.{words_of-length, words_of_each}
-use Rattle.keys.specs.PlainKeys.{turned_of, limits_of, key_by, lack_by, plain_key, plain_lack, base_of, place_from, clamped, word_from, word_in, Small}
+use Rattle.keys.specs.PlainKeys.{limits_of, key_by, lack_by, plain_key, plain_lack, base_of, place_from, clamped, word_from, word_in}
 use Rattle.keys.specs.declared.turned.Turned.{Turned}
 
 -- what each of 8 places from 8 * e on is filled with, where a rule gives it by the pair's number

@@ -1,4 +1,4 @@
-use Rattle.std.proofs.Common.{◌≡◌, ◌*◌, add-zero, arith}
+use Rattle.std.proofs.Common.{◌*◌, add-zero}
 use Rattle.base.specs.Filled.{filled_none}
 use Rattle.base.specs.First.{found-start}
 use Rattle.keys.specs.PlainKeysLaws.{more_keys, more_lacks}

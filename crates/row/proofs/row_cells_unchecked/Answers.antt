@@ -1,4 +1,4 @@
-use Rattle.std.proofs.Common.{◌≡◌, refl, ◌∙◌, ℕ, ◌<◌, ◌≤◌, Bool, false, List, get_or, min, arith, rules, zero-add}
+use Rattle.std.proofs.Common.{◌≡◌, refl, ◌∙◌, ℕ, ◌<◌, ◌≤◌, Bool, false, List, get_or, min, arith, zero-add}
 use Rattle.std.proofs.Math.ListN.{length-set}
 use Rattle.base.specs.Filled.{filled_none, filled_more}
 use Rattle.base.specs.First.{found, found-false}
@@ -9,7 +9,6 @@ use Rattle.cells.specs.Cell.{packed}
 use Rattle.chroma_transforms.specs.ChromaTransforms.{uv_limit}
 use Rattle.chroma_transforms.specs.ChromaTransformsLaws.{uv_tx}
 use Rattle.row.specs.Row.{ModeInfo, cell_from, cell_at, word_at, bad_at}
-use Rattle.row.specs.RowLaws.{long, holds}
 use Rattle.row.specs.RowLists.{lists_of, mi_at}
 use Rattle.row.specs.declared.mode_info.CellMi.{CellMi}
 use Rattle.row.proofs.row_cells_unchecked.Goals as goal

@@ -1,4 +1,3 @@
-use Rattle.std.proofs.Common.{◌≡◌, arith}
 use Rattle.base.specs.Filled.{filled_none}
 use Rattle.keys.specs.PlainKeysLaws.{more_words}
 use Rattle.keys.proofs.fetch.fetch.Goals as goal
