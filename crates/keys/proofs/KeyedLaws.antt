@@ -3,17 +3,13 @@
 use Rattle.std.specs.Prelude.{◌≡◌, Bool, true, false, cond, not, ◌&&◌, ◌||◌, List, ℕ, zero, suc, ◌+◌, ◌*◌, ◌≤◌, ◌<◌, ltb, get_or, replicate}
 use Rattle.std.proofs.Common.{arith}
 use Rattle.base.specs.Filled.{filled-below}
-use Rattle.cells.specs.Cell.{bit}
+use Rattle.cells.specs.CellLaws.{bit_small}
 use Rattle.decisions.specs.declared.Decision.{Decision}
 use Rattle.keys.specs.Keyed.{Keyed}
 use Rattle.keys.specs.Keys.{key_of}
 use Rattle.keys.specs.PlainKeys.{plain, key_by, plain_key, plain_keys, pairs}
 use Rattle.keys.specs.declared.edge_limits.EdgeLimits.{EdgeLimits}
 use Rattle.keys.specs.declared.turned.Turned.{Turned}
-
-bit_small : (b : Bool) → bit b ≤ 1
-bit_small true = omega arith
-bit_small false = omega arith
 
 key_small : (d : Decision) → d.size ≤ 2 → d.level ≤ 63 → key_of d < 192
 unfolding key_of
