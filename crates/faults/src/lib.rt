@@ -22,6 +22,7 @@ use window::{WindowShape, bad_window};
 use word_bytes::Words;
 
 // Refusals 1 to 10, of a row with so many cells lent. Whether the depth is known is the matter of the samples' width.
+#[tactic(auto, using(geometry::specs::FrameLaws::sized, geometry::specs::FrameLaws::started))]
 pub fn number_faults(n: PassNumbers, known: bool, lent: usize) -> Result<(), Fault>
     ensures { (after : Outcome (List ℕ)) → numbers_refused n.sharpness known n.sub_x n.sub_y n.mi_cols n.mi_rows n.mi_row n.mi_col n.plane n.pass lent after ≡ afterwards result after }
 {
@@ -53,6 +54,7 @@ pub fn number_faults(n: PassNumbers, known: bool, lent: usize) -> Result<(), Fau
 }
 
 // Refusals 11 to 13, once the numbers are tested. Refusal 14 is left to those who decide.
+#[tactic(auto, using(window::specs::WindowLaws::lent))]
 pub fn list_faults_unchecked<S: PlaneSample, C: Words>(
     samples: &[S],
     g: WindowShape,
