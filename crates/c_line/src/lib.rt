@@ -24,6 +24,7 @@ pub fn springspade_line(
 }
 
 // As springspade_line over bytes: the first 16 of taps.
+#[tactic(auto, using(c_border::specs::BorderLaws::crossed_as, line::specs::LineWidths::lent_place))]
 pub fn springspade_line_bytes(
     taps: &mut [u8],
     bit_depth: u8,
