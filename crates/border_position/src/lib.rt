@@ -26,7 +26,8 @@ fn read_tap<S: Sample>(samples: &[S], g: WindowShape, p: Position, k: usize) -> 
     samples[p.read_place_unchecked(g, k)].word()
 }
 
-// By array::from_fn the proof does not close: what it says of a call leaves open what the closure borrowed.
+// By array::from_fn the closure has clauses of its own, and the proof does not close: its law tells what each entry equals, and not
+// that it fits the width.
 fn load<S: Sample>(samples: &[S], g: WindowShape, p: Position) -> [u16; 16]
     requires { Lent g (length samples.now) }
     ensures { (result ≡ gather (tap_read g p.pass p.x p.y) 0 16 (map S.value samples.now)) × HoldsLine S.width result }

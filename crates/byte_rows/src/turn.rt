@@ -7,6 +7,7 @@ fn shuffle(u: &mut [u8; 256], to: usize, t: &[u8; 256], from: usize, half: usize
     requires { (to + 2 * half ≤ 256) × (from + 2 * half ≤ 256) }
     ensures { Turned to from 2 half t.now u.new }
 {
+    // By places: chunks_exact_mut tells a proof the length of what it leaves, and not the entries.
     for i in 0..half {
         u[to + 2 * i] = t[from + i];
         u[to + 2 * i + 1] = t[from + half + i];

@@ -12,8 +12,9 @@ fn load_lane(t: &mut [u16; 256], l: usize, samples: &[u16], at: usize, taps: Row
     requires { (l < 16) × (at + 15 < length samples.now) }
     ensures { t.new ≡ scatter (λ k. true) (λ k. 16 * (taps.lo + k) + l) (λ k. get_or samples.now (at + (taps.lo + k)) 0) taps.m t.old }
 {
-    for k in 0..taps.m {
-        t[16 * (taps.lo + k) + l] = samples[at + (taps.lo + k)];
+    let first = at + taps.lo;
+    for (k, sample) in samples[first..first + taps.m].iter().enumerate() {
+        t[16 * (taps.lo + k) + l] = *sample;
     }
 }
 
@@ -22,6 +23,7 @@ fn store_lane(samples: &mut [u16], at: usize, t: &[u16; 256], l: usize, taps: Ro
     requires { (l < 16) × (at + 15 < length samples.old) }
     ensures { samples.new ≡ scatter (λ k. true) (λ k. at + (taps.lo + k)) (λ k. get_or t.now (16 * (taps.lo + k) + l) 0) taps.m samples.old }
 {
+    // By iter_mut the loop is no shorter, and leaves to show what the part that it went through makes of the whole list.
     for k in 0..taps.m {
         samples[at + (taps.lo + k)] = t[16 * (taps.lo + k) + l];
     }
@@ -51,6 +53,7 @@ impl Lines for Across {
 
     fn gather(self, samples: &[u16], taps: Rows) -> [u16; 256] {
         let mut t = [0u16; 256];
+        // Lanes are numbers alone here: no list is walked.
         for l in 0..self.n {
             load_lane(&mut t, l, samples, self.at + l * self.along, taps);
         }
@@ -58,6 +61,7 @@ impl Lines for Across {
     }
 
     fn scatter(self, samples: &mut [u16], t: &[u16; 256], taps: Rows) {
+        // The same.
         for l in 0..self.n {
             store_lane(samples, self.at + l * self.along, t, l, taps);
         }

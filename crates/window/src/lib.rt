@@ -56,6 +56,7 @@ pub fn first_bad_sample_unchecked(samples: &[u16], g: WindowShape, bound: u16) -
     requires { Lent g (length samples.now) }
     ensures { result ≡ first_found (bad_sample g bound samples.now) (g.height * g.width) }
 {
+    // By find_map the proof does not close at what it returns: it tells a chain of calls, and no law makes the first place of it.
     for row in 0..g.height {
         if let Some(k) = first_in_row(samples, row * g.stride, g.width, bound) {
             return Some(row * g.width + k);

@@ -8,5 +8,5 @@ returns-in_default g c =
     let a = c.args in
     let s = a.strength in
     let same : sample_filtering a.depth.bits a.size s.limit s.blimit s.thresh ≡ sample_filtering a.depth.bits 2 s.limit s.blimit s.thresh =
-        λ i t. filters_large a.depth.bits a.size s.limit s.blimit s.thresh t (omega (arith, c.in_default)) i in
+    λ i t. filters_large a.depth.bits a.size s.limit s.blimit s.thresh t (omega (arith, c.in_default)) i in
     rw same c.filter_sized-in_default.ensures
