@@ -1,11 +1,7 @@
 -- Laws of stencils: what they leave alone, what they store, and that two which meet nowhere can be exchanged (`applied_exchange`).
 -- Assumes nothing.
-use Rattle.std.specs.Prelude.{◌≡◌, ◌≢◌, Bool, true, false, length, get_or, set}
-use Rattle.std.proofs.Math.Path.{refl, ap}
-use Rattle.std.proofs.Common.{sym, ◌∙◌, add-zero, add-suc, suc-add, zero-add, eq-or-lt_of_le, le_of_suc-le-suc, add-one, arith, length-set, get_or-set_same, get_or-set_other, ext_get_or}
-use Rattle.std.proofs.Math.Logic.{⊎_elim}
-use mathlib.Core.List.{List, ◌∷◌}
-use Prim.Native.Nat.{ℕ, zero, suc, ◌+◌, ◌<◌}
+use Rattle.std.specs.Prelude.{◌≡◌, refl, ◌≢◌, Bool, true, false, List, ◌∷◌, ℕ, zero, suc, ◌+◌, ◌<◌, length, get_or, set}
+use Rattle.std.proofs.Common.{sym, ap, ◌∙◌, ⊎_elim, add-zero, add-suc, suc-add, zero-add, eq-or-lt_of_le, le_of_suc-le-suc, add-one, arith, length-set, get_or-set_same, get_or-set_other, ext_get_or}
 use Rattle.std.proofs.lemmas.List.{set-get_or, set_comm}
 use Rattle.base.specs.First.{found, found-false}
 use Rattle.window.specs.Stencil.{Stencil, gather, taps, put, scatter, applied, in_turn}
