@@ -6,7 +6,7 @@ ghost use Rattle.lane.specs.LaneSamples.{samples_of, four_of, six_of, fourteen_o
 ghost use Rattle.line.specs.Masks.{hev_mask};
 ghost use Rattle.line.specs.NarrowFilter.{narrow_filter};
 ghost use Rattle.wide_filter.specs.WideFilter.{wide_filter};
-ghost use Rattle.byte_filters.specs.ByteArm.{arm_of};
+ghost use Rattle.byte_filters.specs.ByteArm.{arm_of, number_of};
 
 mod limits;
 mod narrow;
@@ -19,43 +19,52 @@ use limits::{blimit_of, limit_of};
 use narrow::narrow_filter;
 use wide::{wide_fourteen, wide_six};
 
-// The filter that a lane gets by its key: 0 none, 1 the narrow one, 2 the wide one of six samples, 3 that of fourteen.
-pub fn lane_arm_unchecked(a: Lane<u8>, key: u8, sharpness: Sharpness) -> u8
+// The filter that a lane gets: none, the narrow one, the wide one of six samples, or that of fourteen.
+#[derive(Clone, Copy, PartialEq, Eq)]
+pub enum Arm {
+    None,
+    Narrow,
+    Six,
+    Fourteen,
+}
+
+// The arm of a lane by its key.
+pub fn lane_arm_unchecked(a: Lane<u8>, key: u8, sharpness: Sharpness) -> Arm
     requires { key < 192 }
-    ensures { result ≡ arm_of sharpness.level key (samples_of a) }
+    ensures { number_of result ≡ arm_of sharpness.level key (samples_of a) }
 {
     let level = key % 64;
     let limit = limit_of(level, sharpness);
     let on = (0 < level) & filter_mask_unchecked(a, limit, blimit_of(level, limit));
     let flat = (64 <= key) & flat_mask(a, 1);
     let flat2 = (128 <= key) & flat_mask2(a, 1);
-    let wide = if flat2 { 3 } else { 2 };
-    let some = if flat { wide } else { 1 };
-    if on { some } else { 0 }
+    let wide = if flat2 { Arm::Fourteen } else { Arm::Six };
+    let some = if flat { wide } else { Arm::Narrow };
+    if on { some } else { Arm::None }
 }
 
-// A lane of arm 1, 2 and 3. Another lane stays as it is.
+// A lane of each arm. Another lane stays as it is.
 
-pub fn byte_four(a: Lane<u8>, key: u8, arm: u8) -> Four<u8>
-    ensures { put_taps (samples_of a) 6 (four_of result) ≡ cond (eqb arm 1) (narrow_filter 8 (hev_mask (key % 64 / 16) (samples_of a)) (samples_of a)) (samples_of a) }
+pub fn byte_four(a: Lane<u8>, key: u8, arm: Arm) -> Four<u8>
+    ensures { put_taps (samples_of a) 6 (four_of result) ≡ cond (eqb (number_of arm) 1) (narrow_filter 8 (hev_mask (key % 64 / 16) (samples_of a)) (samples_of a)) (samples_of a) }
 {
     let r = narrow_filter(a, hev_mask(a, key % 64 / 16));
-    let on = arm == 1;
+    let on = arm == Arm::Narrow;
     if on { r } else { a.four() }
 }
 
-pub fn byte_six(a: Lane<u8>, arm: u8) -> Six<u8>
-    ensures { put_taps (samples_of a) 5 (six_of result) ≡ cond (eqb arm 2) (wide_filter 3 (samples_of a)) (samples_of a) }
+pub fn byte_six(a: Lane<u8>, arm: Arm) -> Six<u8>
+    ensures { put_taps (samples_of a) 5 (six_of result) ≡ cond (eqb (number_of arm) 2) (wide_filter 3 (samples_of a)) (samples_of a) }
 {
     let r = wide_six(a);
-    let on = arm == 2;
+    let on = arm == Arm::Six;
     if on { r } else { a.six() }
 }
 
-pub fn byte_fourteen(a: Lane<u8>, arm: u8) -> Lane<u8>
-    ensures { put_taps (samples_of a) 1 (fourteen_of result) ≡ cond (eqb arm 3) (wide_filter 4 (samples_of a)) (samples_of a) }
+pub fn byte_fourteen(a: Lane<u8>, arm: Arm) -> Lane<u8>
+    ensures { put_taps (samples_of a) 1 (fourteen_of result) ≡ cond (eqb (number_of arm) 3) (wide_filter 4 (samples_of a)) (samples_of a) }
 {
     let r = wide_fourteen(a);
-    let on = arm == 3;
+    let on = arm == Arm::Fourteen;
     if on { r } else { a }
 }

@@ -1,14 +1,15 @@
 // The line filter on 16 lanes of bytes at once, each with a key of its own. Loops have no branch, so that they vectorise.
 #![tactic(auto)]
 
-ghost use Rattle.std.specs.Prelude.{◌≡◌, ◌≤◌, ◌<◌, length};
+ghost use Rattle.std.specs.Prelude.{◌≡◌, ◌≤◌, ◌<◌, length, map};
+ghost use Rattle.byte_filters.specs.ByteArm.{number_of};
 ghost use Rattle.lanes.specs.Lanes.{EachLane};
 ghost use Rattle.byte_lanes.specs.ByteLanes.{ArmsTo, has_arm, arm_lane, narrow_lane, wide_lane, Filtered};
 
 pub mod lane_keys;
 
 use base::sharpness::Sharpness;
-use byte_filters::{byte_four, byte_fourteen, byte_six, lane_arm_unchecked};
+use byte_filters::{Arm, byte_four, byte_fourteen, byte_six, lane_arm_unchecked};
 use lane::Lane;
 use lane_keys::LaneKeys;
 use lanes::table::{each_lane_unchecked, lane_at_unchecked};
@@ -21,11 +22,11 @@ pub struct Changed {
 }
 
 // The filter of each lane by its key.
-fn lane_arms(t: &[u8; 256], keys: &LaneKeys, sharpness: Sharpness) -> [u8; 16]
-    ensures { ArmsTo 16 sharpness.level keys.now.of t.now result }
+fn lane_arms(t: &[u8; 256], keys: &LaneKeys, sharpness: Sharpness) -> [Arm; 16]
+    ensures { ArmsTo 16 sharpness.level keys.now.of t.now (map number_of result) }
 {
     // A loop: of array::from_fn the proof that each call sees the same table did not close.
-    let mut arms = [0u8; 16];
+    let mut arms = [Arm::None; 16];
     for l in 0..16 {
         arms[l] = lane_arm_unchecked(lane_at_unchecked(t, l), keys.of[l], sharpness);
     }
@@ -33,8 +34,8 @@ fn lane_arms(t: &[u8; 256], keys: &LaneKeys, sharpness: Sharpness) -> [u8; 16]
 }
 
 // Whether a lane gets the filter arm. All are looked at, since a loop that could end early would not vectorise.
-fn any_arm(arms: &[u8; 16], arm: u8) -> bool
-    ensures { result ≡ has_arm arms.now arm }
+fn any_arm(arms: &[Arm; 16], arm: Arm) -> bool
+    ensures { result ≡ has_arm (map number_of arms.now) (number_of arm) }
 {
     let mut on = false;
     for a in arms {
@@ -49,9 +50,9 @@ pub fn filter_byte_lanes_unchecked(t: &mut [u8; 256], keys: &LaneKeys, sharpness
     ensures { Filtered sharpness.level keys.now.of t.old t.new result }
 {
     let arms = lane_arms(t, keys, sharpness);
-    let four = any_arm(&arms, 1);
-    let six = any_arm(&arms, 2);
-    let outer = any_arm(&arms, 3);
+    let four = any_arm(&arms, Arm::Narrow);
+    let six = any_arm(&arms, Arm::Six);
+    let outer = any_arm(&arms, Arm::Fourteen);
     if four {
         each_lane_unchecked(t, 16, |a: Lane<u8>, l: usize| {
             byte_four(a, keys.of[l], arms[l])
