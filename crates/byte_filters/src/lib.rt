@@ -28,7 +28,7 @@ pub enum Arm {
     Fourteen,
 }
 
-// The arm of a lane by its key.
+// The arm of a lane by its key, which is 64 times the filter size and the level: the size is no enum, since 8.8.2 computes with it.
 pub fn lane_arm_unchecked(a: Lane<u8>, key: u8, sharpness: Sharpness) -> Arm
     requires { key < 192 }
     ensures { number_of result ≡ arm_of sharpness.level key (samples_of a) }

@@ -1,4 +1,5 @@
-// The wide filter (8.8.5.3) on bytes. Its sums take 16 bits: the lane is widened, and what it gives is made bytes again.
+// The wide filter (8.8.5.3) on bytes. Its sums take 16 bits: the lane is widened, and what it gives is made bytes again. A filter
+// generic over the sample would carry the type of its sums beside it, and speak of the value of each sample that it reads.
 ghost use Rattle.std.specs.Prelude.{◌≡◌, ◌<◌};
 ghost use Rattle.lane.specs.LaneSamples.{samples_of, six_of, fourteen_of, put_taps};
 ghost use Rattle.wide_filter.specs.Taps.{Within};

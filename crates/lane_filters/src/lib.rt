@@ -59,7 +59,8 @@ pub fn lane_mask(a: Lane<u16>, depth: Depth, limit: u8, blimit: u8) -> bool
     filter_mask_unchecked(a, depth.scaled(limit), depth.scaled(blimit))
 }
 
-// A lane at size 0, 1 and 2. The samples of the answer are those that can change.
+// A lane at size 0, 1 and 2. The samples of the answer are those that can change. Lanes of bytes have keys of their own, so that
+// they are told apart by their filter first; these share one.
 
 pub fn lane_four_unchecked(
     a: Lane<u16>,

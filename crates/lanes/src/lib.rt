@@ -23,7 +23,8 @@ fn whole(n: usize) -> usize
     if n <= 8 { 8 } else { 16 }
 }
 
-// Whether the filter mask is on in one of the first m lanes that is below n. Idle lanes would pass it.
+// Whether the filter mask is on in one of the first m lanes that is below n. Idle lanes would pass it. By number, since no slice
+// of the table holds a lane.
 fn any_mask(t: &[u16; 256], m: usize, n: u16, depth: Depth, limit: u8, blimit: u8) -> bool
     requires { Table t.now × (m ≤ 16) }
     ensures { result ≡ false → NoneTo m n depth.bits limit blimit t.now }
@@ -36,7 +37,8 @@ fn any_mask(t: &[u16; 256], m: usize, n: u16, depth: Depth, limit: u8, blimit: u
     on
 }
 
-// Filters the first n lanes. The answer is false where none of them changes, so that nothing need be stored.
+// Filters the first n lanes. The answer is false where none of them changes, so that nothing need be stored. The size is a
+// number, the standard's filterSize: 8.8.2 computes with it, and keys pack it.
 pub fn filter_lanes_unchecked(
     t: &mut [u16; 256],
     n: usize,

@@ -104,7 +104,7 @@ impl<T: Copy> Part<T> for Lane<T> {
     }
 }
 
-// The first n lanes, each by the filter.
+// The first n lanes, each by the filter. By number, since no slice of the table holds a lane.
 pub fn each_lane_unchecked<T: Sample, R: Part<T>, F: Fn(Lane<T>, usize) -> R>(
     t: &mut [T; 256],
     n: usize,

@@ -22,7 +22,8 @@ use narrow::narrow_filter;
 use stored::{store_fourteen, store_six};
 use wide_filter::{wide_fourteen_unchecked, wide_six_unchecked};
 
-// The work without the tests, for a caller that has made them.
+// The work without the tests, for a caller that has made them. The size is a number, the standard's filterSize: 8.8.2 computes
+// with it, and keys pack it.
 #[tactic(auto, unfolding(crate::specs::SampleFiltering::sample_filtering))]
 pub fn sample_filtering_unchecked(
     t: &mut [u16; 16],

@@ -1,4 +1,5 @@
-// The narrow filter (8.8.5.4), in the steps of the standard.
+// The narrow filter (8.8.5.4), in the steps of the standard. It takes any samples: the one of lanes, which needs no sign, asks for
+// 12 bits.
 ghost use Rattle.std.specs.Prelude.{◌≡◌, cond, ◌<◌, pos, ◌+ℤ◌, ◌-ℤ◌, ◌*ℤ◌};
 ghost use Rattle.std.specs.Int.Signed.{mag};
 ghost use Rattle.base.specs.Notation.{asr_z, round2_z};

@@ -86,11 +86,12 @@ pub fn side_unchecked<S: Sum, const M: usize>(x: [u16; M], y: [u16; M]) -> [u16;
 {
     let n = M - 1;
     let mut near = S::of(M as u16);
-    for k in 0..n {
-        near = near.plus(S::of(x[k]));
+    for v in &x[..n] {
+        near = near.plus(S::of(*v));
     }
     let mut far = S::of(0);
     let mut r = x;
+    // By number: a round reads the other side from the edge on, and this one towards it.
     for k in 0..n {
         far = far.plus(S::of(y[k]));
         let i = n - 1 - k;
