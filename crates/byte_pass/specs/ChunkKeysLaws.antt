@@ -1,8 +1,8 @@
 -- Laws of the keys of a chunk, for the code that spreads them.
 -- Assumes nothing.
 use Rattle.std.specs.Prelude.{◌≡◌, ◌⊎◌, Bool, true, false, List, ℕ, ◌+◌, ◌-◌, ◌*◌, ◌/◌, ◌%◌, ◌≤◌, ◌<◌, length, get_or, replicate, slice_range, not, eqb, ◌||◌}
-use borrow.Author.Tests.{eqb-true, not-false}
-use Rattle.std.proofs.Common.{sym, drop, length-take-le, length-drop, ap, ◌∙◌, inl, inr, zero-add, arith}
+use Rattle.std.proofs.lemmas.Bool.{not-false}
+use Rattle.std.proofs.Common.{sym, drop, length-take-le, length-drop, ap, ◌∙◌, inl, inr, zero-add, arith, eqb-true}
 use Rattle.std.specs.List.{fold}
 use Rattle.std.proofs.lemmas.List.{get_or-take, get_or-drop}
 use Rattle.base.specs.First.{found, found-false}

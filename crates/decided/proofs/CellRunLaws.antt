@@ -1,8 +1,7 @@
 -- The positions of the runs that filter are the decided ones of level above 0.
 -- Assumes nothing.
 use Rattle.std.specs.Prelude.{◌≡◌, Bool, true, false, cond}
-use Rattle.std.proofs.Math.Path.{refl, sym}
-use Rattle.std.proofs.Common.{◌∙◌, List, [], ◌∷◌, ◌++◌}
+use Rattle.std.proofs.Common.{◌∙◌, refl, sym, List, [], ◌∷◌, ◌++◌}
 use mathlib.Core.List.{Memᴰ}
 use Rattle.geometry.specs.declared.Pass.{Pass}
 use Rattle.order.specs.Grid.{keep_if, select, select_append}

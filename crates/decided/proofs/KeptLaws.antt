@@ -1,9 +1,7 @@
 -- Cells that filter nothing may be left out before cells are joined: the runs that filter stay the same (`kept_grid`).
 -- Assumes nothing.
 use Rattle.std.specs.Prelude.{◌≡◌, Bool, cond, ℕ, ◌+◌, ◌*◌, ◌≤◌, ◌<◌}
-use Rattle.std.proofs.Math.Path.{refl, sym, ap}
-use Rattle.std.proofs.Common.{◌∙◌, arith, ltb-true, ltb-false, List, [], ◌∷◌}
-use Rattle.std.proofs.Math.Bool.{true, false}
+use Rattle.std.proofs.Common.{◌∙◌, arith, ltb-true, ltb-false, refl, sym, ap, true, false, List, [], ◌∷◌}
 use mathlib.Core.List.{Memᴰ}
 use Rattle.geometry.specs.Coordinates.{shr}
 use Rattle.geometry.specs.declared.Pass.{Pass}

@@ -1,11 +1,8 @@
 -- The runs that keys make are the runs of the pass (`key_runs_lem`).
 -- Assumes nothing.
 use Rattle.std.specs.Prelude.{◌≡◌, Bool, ◌&&◌, ℕ, zero, suc, ◌+◌, ◌*◌, ◌/◌, ◌%◌, ◌≤◌, ◌<◌, length, get_or}
-use Rattle.std.proofs.Math.Path.{refl, sym, ap}
-use Rattle.std.proofs.Common.{◌∙◌, ⊎_elim, eq-or-lt_of_le, le_of_suc-le-suc, not-suc-le-zero, length-append, List, [], ◌∷◌, ◌++◌, arith, ltb-true, ltb-false, lt-ltb, eqb-true}
-use Rattle.std.proofs.Math.Bool.{true, false, cond}
-use borrow.Author.Tests.{eqb-false}
-use Rattle.std.proofs.Math.Dec.{ltb, eqb}
+use Rattle.std.proofs.Common.{◌∙◌, ⊎_elim, eq-or-lt_of_le, le_of_suc-le-suc, not-suc-le-zero, length-append, refl, sym, ap, true, false, cond, List, [], ◌∷◌, ◌++◌, arith, ltb-true, ltb-false, lt-ltb, eqb-true, ltb, eqb}
+use Rattle.std.proofs.lemmas.Bool.{eqb-false}
 use Rattle.std.proofs.Math.ListN.{get_or-append}
 use Rattle.std.proofs.lemmas.List.{get_or_at}
 use Rattle.base.specs.Filled.{table}

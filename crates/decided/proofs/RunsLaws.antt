@@ -1,9 +1,7 @@
 -- The runs of a pass: their positions (`runs-positions`), size and level (`runs_alike`), and length (`runs_longest`).
 -- Assumes nothing.
 use Rattle.std.specs.Prelude.{◌≡◌, ◌&&◌, ◌+◌, ◌<◌}
-use Rattle.std.proofs.Math.Path.{sym, ap}
-use Rattle.std.proofs.Common.{◌∙◌, inl, inr, arith}
-use Rattle.std.proofs.Math.Bool.{Bool}
+use Rattle.std.proofs.Common.{◌∙◌, inl, inr, arith, sym, ap, Bool}
 use mathlib.Core.List.{Memᴰ}
 use Rattle.geometry.specs.declared.Pass.{Pass}
 use Rattle.order.specs.Grid.{select, select_same, select-select, grid}

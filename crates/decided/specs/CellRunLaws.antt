@@ -1,9 +1,7 @@
 -- Laws of the cells of a pass as runs, and of what joining makes of them: which positions they have, and how these are decided.
 -- Assumes nothing.
 use Rattle.std.specs.Prelude.{◌≡◌, ◌⊎◌, Bool, true, false, cond, ltb}
-use Rattle.std.proofs.Math.Path.{refl, sym, ap}
-use Rattle.std.proofs.Common.{◌∙◌, inl, inr, List, [], ◌++◌, ℕ, zero, suc, ◌+◌, ◌-◌, ◌*◌, ◌%◌, ◌≤◌, ◌<◌, arith}
-use mathlib.Core.List.Memᴰ
+use Rattle.std.proofs.Common.{◌∙◌, inl, inr, refl, sym, ap, List, [], ◌++◌, ℕ, zero, suc, ◌+◌, ◌-◌, ◌*◌, ◌%◌, ◌≤◌, ◌<◌, arith}
 use mathlib.Core.List.{Memᴰ}
 use Rattle.decisions.specs.DecisionLaws.{same_decision}
 use Rattle.decisions.specs.declared.Decision.{Decision}

@@ -2,11 +2,8 @@
 -- (`runs-positions`), each with the run's size and level (`runs_alike`), and that each run is as long as it may be (`runs_longest`).
 -- Assumes nothing.
 use Rattle.std.specs.Prelude.{◌≡◌, refl, true, false, cond, ◌&&◌, ℕ, ◌+◌, ◌≤◌, ◌<◌, ltb, length}
-use Rattle.std.proofs.Math.Path.{sym, ap}
-use Rattle.std.proofs.Common.{◌∙◌, arith, List}
-use Rattle.std.proofs.Math.Bool.{Bool}
+use Rattle.std.proofs.Common.{◌∙◌, arith, sym, ap, Bool, List, ltb→lt}
 use mathlib.Core.List.{Memᴰ}
-use Rattle.std.proofs.Math.Dec.{ltb→lt}
 use Rattle.decisions.specs.Decision.{decision}
 use Rattle.decisions.specs.DecisionLaws.{decision_size, decision_level}
 use Rattle.decisions.specs.declared.Decision.{Decision}

@@ -1,12 +1,8 @@
 // The runs of a pass: along an edge, adjacent cells that filter with equal size and level, joined to at most 16 positions.
 #![tactic(auto)]
 
-ghost use Rattle.std.specs.Prelude.{◌≡◌, ◌+◌, ◌≤◌, ◌<◌};
+ghost use Rattle.std.specs.Prelude.{◌≡◌};
 ghost use Rattle.decided.specs.Decided.{superblock_of};
-ghost use Rattle.decided.specs.KeyRuns.{key_run};
-ghost use Rattle.decided.specs.Runs.{joins, longer};
-ghost use Rattle.decided.specs.RunsLaws.{Small};
-ghost use Rattle.pass_edges.specs.PassEdges.{edge_count};
 
 mod key_cells;
 mod pass_runs;

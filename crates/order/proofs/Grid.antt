@@ -1,9 +1,9 @@
 -- What the members of a grid are, and in which order they stand.
 -- Assumes nothing.
 use Rattle.std.specs.Prelude.{◌≡◌, ◌⊎◌, ℕ, zero, suc, ◌+◌, ◌*◌, ◌≤◌, ◌<◌, length}
-use Rattle.std.proofs.Common.{◌∙◌, inl, inr, suc-add, suc-mul, zero-add, zero-mul, arith, length-append}
+use Rattle.std.proofs.Common.{◌∙◌, inl, inr, suc-add, suc-mul, zero-add, zero-mul, arith, length-append, [], ◌++◌, append_assoc}
 use mathlib.Core.List.Memᴰ
-use mathlib.Core.List.{[], ◌++◌, append_assoc, Memᴰ}
+use mathlib.Core.List.{Memᴰ}
 use Rattle.std.proofs.Math.Decide.{ℕ_discrete}
 use Rattle.order.specs.Order.{Before, Before-now, Before-later}
 use Rattle.order.specs.Grid.{Cell, Halves, Halves-left, Halves-right, Halves-across, before_append, grid, mem_strip, strip, strip_length, strip_mem, strips}

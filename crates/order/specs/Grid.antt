@@ -2,9 +2,9 @@
 -- test admits them (`select`).
 -- Assumes nothing.
 use Rattle.std.specs.Prelude.{◌≡◌, refl, ◌⊎◌, Bool, true, false, cond, ◌&&◌, ℕ, zero, suc, ◌+◌, ◌≤◌, ◌<◌, T, length}
-use Rattle.std.proofs.Common.{ap, ◌∙◌, inl, inr, suc-add, zero-add, arith}
+use Rattle.std.proofs.Common.{ap, ◌∙◌, inl, inr, suc-add, zero-add, arith, List, [], ◌∷◌, ◌++◌}
 use mathlib.Core.List.Memᴰ
-use mathlib.Core.List.{List, [], ◌∷◌, ◌++◌, Memᴰ}
+use mathlib.Core.List.{Memᴰ}
 use Rattle.std.proofs.Math.Decide.{ℕ_discrete}
 use Rattle.order.specs.Order.{Before, Before-now, Before-later}
 

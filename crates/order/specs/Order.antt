@@ -2,10 +2,10 @@
 -- the same end if every two members whose order differs between them have steps that can be exchanged (`same_run`).
 -- Assumes nothing.
 use Rattle.std.specs.Prelude.{◌≡◌, refl, ◌⊎◌, ℕ, zero, suc, ◌<◌}
-use Rattle.std.proofs.Common.{sym, ap, ◌∙◌, inl, inr, suc-le-suc, le_of_suc-le-suc, not-suc-le-zero, zero-lt-suc, arith}
+use Rattle.std.proofs.Common.{sym, ap, ◌∙◌, inl, inr, suc-le-suc, le_of_suc-le-suc, not-suc-le-zero, zero-lt-suc, arith, List, [], ◌∷◌}
 use Rattle.std.proofs.Math.Option.{some}
 use mathlib.Core.List.Memᴰ
-use mathlib.Core.List.{List, [], ◌∷◌, Memᴰ}
+use mathlib.Core.List.{Memᴰ}
 use Rattle.std.proofs.Math.ListN.{get_elem?}
 
 -- ---- a list as an order

@@ -1,8 +1,8 @@
 -- Walks over lists and strips: a list after a list, a strip one longer, and steps that may be left out.
 -- Assumes nothing.
 use Rattle.std.specs.Prelude.{◌≡◌, refl, Bool, true, false, cond, ℕ, ◌+◌}
-use Rattle.std.proofs.Common.{ap, ◌∙◌}
-use mathlib.Core.List.{List, [], ◌∷◌, ◌++◌, Memᴰ}
+use Rattle.std.proofs.Common.{ap, ◌∙◌, List, [], ◌∷◌, ◌++◌}
+use mathlib.Core.List.{Memᴰ}
 use Rattle.order.specs.Order.{run}
 use Rattle.order.specs.Grid.{keep_if, select, strip, strip_split}
 

@@ -2,13 +2,9 @@
 -- with no clamps and no tests (`keyed_inside`), at its border position by position (`keyed_on`, `keyed_off`).
 -- Assumes nothing.
 use Rattle.std.specs.Prelude.{◌≡◌, Bool, true, false, ltb, length}
-use Rattle.std.proofs.Math.Path.{refl, sym, ap}
-use Rattle.std.proofs.Common.{◌∙◌, add_assoc, add-one, lt-ltb, le-ltb}
-use Rattle.std.proofs.Math.Bool.{cond}
-use mathlib.Core.List.{List, ◌++◌, append-nil, Memᴰ}
-use Prim.Native.Nat.{ℕ, zero, suc, ◌+◌, ◌*◌, ◌/◌, ◌%◌, ◌≤◌, ◌<◌}
+use Rattle.std.proofs.Common.{◌∙◌, add_assoc, add-one, lt-ltb, le-ltb, refl, sym, ap, cond, List, ◌++◌, append-nil, ℕ, zero, suc, ◌+◌, ◌*◌, ◌/◌, ◌%◌, ◌≤◌, ◌<◌, arith}
+use mathlib.Core.List.{Memᴰ}
 use Rattle.std.proofs.Math.Decide.{dec_lt}
-use native.Mathlib.Omega.{arith}
 use Rattle.decided.specs.Decided.{Position, position, Setting, decision_at, is_decided, decided, filters}
 use Rattle.decided.proofs.KeyRunLaws.{key_for_lem, key_level, key_size}
 use Rattle.decisions.specs.Decision.{decision}

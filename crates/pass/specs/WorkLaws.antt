@@ -1,12 +1,8 @@
 -- The pass as its loops do it: run by run, each by one size and one level.
 -- Assumes nothing.
 use Rattle.std.specs.Prelude.{◌≡◌, Bool, false, cond}
-use Rattle.std.proofs.Math.Path.{refl, sym, ap}
-use Rattle.std.proofs.Common.{◌∙◌, add-one, arith, lt-ltb}
-use Rattle.std.proofs.Math.Bool.{true}
-use mathlib.Core.List.{List, [], ◌∷◌, Memᴰ}
-use Prim.Native.Nat.{ℕ, zero, suc, ◌+◌, ◌^◌, ◌≤◌, ◌<◌}
-use Rattle.std.proofs.Math.ListN.{length}
+use Rattle.std.proofs.Common.{◌∙◌, add-one, arith, lt-ltb, refl, sym, ap, true, List, [], ◌∷◌, ℕ, zero, suc, ◌+◌, ◌^◌, ◌≤◌, ◌<◌, length}
+use mathlib.Core.List.{Memᴰ}
 use Rattle.base.specs.Depth.{supported, depth_scaled}
 use Rattle.decided.specs.Decided.{Position, position, Setting, decision_at, decided, filters}
 use Rattle.decided.specs.KeyRuns.{key_runs}

@@ -1,8 +1,8 @@
 -- Laws of a sheet's lines: how long they are.
 -- Assumes nothing.
 use Rattle.std.specs.Prelude.{refl, ℕ, ◌*◌, ◌≤◌, ◌<◌, length}
-use mathlib.Core.List.{List, [], ◌∷◌, Memᴰ}
-use Rattle.std.proofs.Common.{arith, length-append}
+use mathlib.Core.List.{Memᴰ}
+use Rattle.std.proofs.Common.{arith, length-append, List, [], ◌∷◌}
 use Rattle.decided.specs.RunsLaws.{Small}
 use Rattle.decided.specs.declared.EdgeRun.{EdgeRun}
 use Rattle.text.specs.Text.{decimal}

@@ -1,9 +1,9 @@
 -- Laws of text, for its users.
 -- Assumes nothing.
 use Rattle.std.specs.Prelude.{◌≡◌, refl, Bool, true, false, ◌⊎◌, ℕ, zero, suc, ◌+◌, ◌-◌, ◌*◌, ◌/◌, ◌%◌, ◌^◌, ◌≤◌, ◌<◌, ltb, length, get_or, take, drop, set}
-use Rattle.std.proofs.Common.{◌∙◌, inl, inr, ⊎_elim, add-zero, add-suc, suc-add, zero-add, mod-eq_of_lt, add-one, arith, length-append, length-set, length-take-le, take-suc, lt-ltb, le-ltb, ltb-true, ltb-false}
+use Rattle.std.proofs.Common.{◌∙◌, inl, inr, ⊎_elim, add-zero, add-suc, suc-add, zero-add, mod-eq_of_lt, add-one, arith, length-append, length-set, length-take-le, take-suc, lt-ltb, le-ltb, ltb-true, ltb-false, List, [], ◌∷◌, ◌++◌}
 use mathlib.Core.List.Memᴰ
-use mathlib.Core.List.{List, [], ◌∷◌, ◌++◌, Memᴰ}
+use mathlib.Core.List.{Memᴰ}
 use Rattle.std.proofs.lemmas.List.Edits.{sets, sets-eq}
 use Rattle.text.specs.Text.{digit, decimal_in, decimal, value, value_after, written, Put}
 
