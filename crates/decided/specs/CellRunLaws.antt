@@ -2,6 +2,7 @@
 -- Assumes nothing.
 use Rattle.std.specs.Prelude.{◌≡◌, ◌⊎◌, Bool, true, false, cond, ltb}
 use Rattle.std.proofs.Common.{◌∙◌, inl, inr, refl, sym, ap, List, [], ◌++◌, ℕ, zero, suc, ◌+◌, ◌-◌, ◌*◌, ◌%◌, ◌≤◌, ◌<◌, arith}
+use mathlib.Core.List.Memᴰ
 use mathlib.Core.List.{Memᴰ}
 use Rattle.decisions.specs.DecisionLaws.{same_decision}
 use Rattle.decisions.specs.declared.Decision.{Decision}
