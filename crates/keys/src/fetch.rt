@@ -58,7 +58,7 @@ pub(crate) fn fetch<C: Words>(words: &mut [u32; 64], cells: C, t: SmallTurned)
     requires { 0 < length (C.words cells) }
     ensures { words.new ≡ fetched t.of (C.words cells) words.old }
 {
-    // Over the pairs that there are, 4 or 8: what lies behind them stays.
+    // By its number, since a pair's place in the cells is made of it.
     for e in 0..pair_count(t.of.sub) {
         fetch_pair(words, cells, t, e);
     }

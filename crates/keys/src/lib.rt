@@ -62,7 +62,7 @@ fn put_keys(outer: &mut [u8; 64], inner: &mut [u8; 64], words: &[u32; 64], t: Sm
     ensures lacking { result ≡ found (plain_lack t.of words.now) (8 * pairs t.of.sub) }
 {
     let mut lacking = false;
-    // Over the pairs that there are: they are numbers, and index no list here.
+    // By its number, since a pair's limits and places are made of it.
     for e in 0..pair_count(t.of.sub) {
         let r = put_pair(outer, inner, words, t, e);
         lacking = lacking | r;
