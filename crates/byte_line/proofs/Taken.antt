@@ -1,8 +1,7 @@
 -- The first entries of a list, as an array made of them in turn has them.
 -- Assumes nothing.
-use Rattle.std.proofs.Common.{◌≡◌, sym, ◌∙◌, List, ℕ, ◌≤◌, ◌<◌, length, get_or, take, replicate, arith, zero-add, length-take-le}
+use Rattle.std.proofs.Common.{◌≡◌, sym, ◌∙◌, List, ℕ, ◌≤◌, ◌<◌, length, get_or, take, replicate, arith, zero-add, length-take-le, get_or-take}
 use Rattle.std.proofs.lemmas.List.{ext_get_or, length-replicate}
-use lib.Seq.{get_or-take}
 use Rattle.base.specs.Filled.{filled, filled_at, length-filled}
 
 pub taken : (t : List ℕ) (n : ℕ) → n ≤ length t → filled (λ k. get_or t k 0) 0 n (replicate n 0) ≡ take n t

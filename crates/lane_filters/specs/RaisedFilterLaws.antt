@@ -1,10 +1,9 @@
 -- The raised values are those of the narrow filter.
 -- Assumes nothing.
-use Rattle.std.specs.Prelude.{◌≡◌, Bool, cond, List, pos, ◌+ℤ◌, ◌-ℤ◌, ◌*ℤ◌, set}
+use Rattle.std.specs.Prelude.{◌≡◌, Bool, cond, List, pos, ◌+ℤ◌, ◌-ℤ◌, ◌*ℤ◌, set, ℕ, ◌+◌, ◌-◌, ◌*◌, ◌/◌, ◌^◌, ◌<◌, min}
 use Rattle.std.proofs.Common.{◌∙◌, arith}
 use Rattle.std.proofs.Math.Path.{ap}
 use Rattle.std.proofs.Math.Bool.{true, false}
-use Prim.Native.Nat.{ℕ, ◌+◌, ◌-◌, ◌*◌, ◌/◌, ◌^◌, ◌<◌, min}
 use Rattle.std.proofs.Math.IntN.{sub_ℕ}
 use Rattle.base.specs.Depth.{supported, depth_scaled}
 use Rattle.base.specs.Notation.{asr_z, round2_z}

@@ -1,10 +1,8 @@
 -- Laws of document 01's line: its cases.
 -- Assumes nothing.
-use Rattle.std.specs.Prelude.{◌≡◌, Bool, true, false, not, ltb}
-use mathlib.Core.List.{List}
-use Prim.Native.Nat.{ℕ, ◌^◌, ◌≤◌, ◌<◌}
-use Rattle.std.proofs.Common.{arith}
-use borrow.Author.Tests.{lt-ltb, le-ltb, lt-leb}
+use Rattle.std.specs.Prelude.{◌≡◌, Bool, true, false, not, ltb, List, ℕ, ◌^◌, ◌≤◌, ◌<◌}
+use Rattle.std.proofs.Common.{arith, lt-ltb, le-ltb}
+use Rattle.std.proofs.lemmas.Bool.{lt-leb}
 use Rattle.base.specs.First.{first, found, found_none, first_small}
 use Rattle.base.specs.Outcome.{accepted, refused, refuse, returned}
 use Rattle.base.specs.Width.{Width, admits}

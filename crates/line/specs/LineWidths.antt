@@ -1,8 +1,8 @@
 -- The line at both widths of samples: over a lent list, over bytes, and over the same samples at either width.
 -- Assumes nothing.
 use Rattle.std.specs.Prelude.{◌≡◌, refl, true, false, not, List, ℕ, ◌^◌, ◌≤◌, ◌<◌, ltb, length}
-use Rattle.std.proofs.Common.{arith}
-use borrow.Author.Tests.{lt-ltb, le-ltb, lt-leb}
+use Rattle.std.proofs.Common.{arith, lt-ltb, le-ltb}
+use Rattle.std.proofs.lemmas.Bool.{lt-leb}
 use Rattle.base.specs.Depth.{supported}
 use Rattle.base.specs.First.{found, found_none}
 use Rattle.base.specs.Outcome.{accepted, refused, returned}

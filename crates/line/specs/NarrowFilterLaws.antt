@@ -1,8 +1,7 @@
 -- Laws of the narrow filter's numbers.
 -- Assumes nothing.
 use Rattle.std.specs.Prelude.{◌≡◌, List, ◌++◌, ◌⊎◌, Bool, true, false, cond, ℕ, suc, ◌+◌, ◌-◌, ◌*◌, ◌^◌, ◌≤◌, ◌<◌, T, ℤ, pos, negsuc, neg_ℤ, nat_abs, ◌+ℤ◌, ◌-ℤ◌, length, set, zero}
-use Rattle.std.proofs.Common.{◌∙◌, ⊎_elim, length-set, get_or-set_other, le-ltb}
-use native.Mathlib.Omega.{arith}
+use Rattle.std.proofs.Common.{◌∙◌, ⊎_elim, length-set, get_or-set_other, le-ltb, arith}
 use Rattle.std.proofs.Math.IntN.{+ℤ_idl}
 use Rattle.std.proofs.lemmas.List.{set-append_left}
 use Rattle.std.specs.Int.Signed.{mag, non_neg}

@@ -1,12 +1,10 @@
 -- Laws of the wide filter: how many samples it leaves, in which range, which it keeps, and which it reads; and that it leaves what
 -- stands behind the line.
 -- Assumes nothing.
-use Rattle.std.specs.Prelude.{◌≡◌, refl, Bool, true, false, cond, List, ◌++◌, ◌⊎◌, eqb, ℤ, pos, negsuc, ◌+ℤ◌, ◌-ℤ◌, length}
-use Rattle.std.proofs.Common.{◌∙◌, inl, inr, eq-eqb, ne_eqb}
+use Rattle.std.specs.Prelude.{◌≡◌, refl, Bool, true, false, cond, List, ◌++◌, ◌⊎◌, eqb, ℤ, pos, negsuc, ◌+ℤ◌, ◌-ℤ◌, length, ℕ, zero, suc, ◌+◌, ◌-◌, ◌*◌, ◌≤◌, ◌<◌}
+use Rattle.std.proofs.Common.{◌∙◌, inl, inr, eq-eqb, ne_eqb, arith}
 use Rattle.std.proofs.Math.Logic.{⊎_elim}
-use Prim.Native.Nat.{ℕ, zero, suc, ◌+◌, ◌-◌, ◌*◌, ◌≤◌, ◌<◌}
 use Rattle.std.proofs.Math.Nat.{mul-suc}
-use native.Mathlib.Omega.{arith}
 use Rattle.std.proofs.lemmas.List.{set-append_left}
 use Rattle.std.specs.Int.Signed.{mag}
 use Rattle.base.specs.Filled.{filled, length-filled, filled_same, filled_other, filled-below, filled_agree}

@@ -1,5 +1,4 @@
-use Rattle.std.proofs.Common.{◌≡◌, refl, ◌∙◌, ap, ◌++◌, drop, List, ℕ, get_or, arith, rules}
-use lib.Seq.{take_all}
+use Rattle.std.proofs.Common.{◌≡◌, refl, ◌∙◌, ap, ◌++◌, drop, List, ℕ, get_or, arith, rules, take_all}
 use Rattle.base.specs.FromFn.{from_fn_filled}
 use Rattle.byte_line.proofs.Taken.{taken}
 use Rattle.byte_line.proofs.store_narrowed.Goals as goal

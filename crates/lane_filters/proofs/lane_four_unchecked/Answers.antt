@@ -1,4 +1,4 @@
-use mathlib.Core.Path.{refl, sym, ◌∙◌}
+use Rattle.std.proofs.Common.{refl, sym, ◌∙◌}
 use Rattle.line.specs.SampleFilteringLaws.{filters_none, filters_narrow}
 use Rattle.lane.specs.LaneSamples.{samples_of}
 use Rattle.lane_filters.proofs.lane_four_unchecked.Goals as goal

@@ -1,5 +1,4 @@
-use mathlib.Core.Path.{◌≡◌, sym, ◌∙◌}
-use mathlib.Core.Bool.{true, false, not}
+use Rattle.std.proofs.Common.{◌≡◌, sym, ◌∙◌, true, false, not}
 use Rattle.std.proofs.lemmas.Bool.{not_from_false, not_from_true}
 use Rattle.base.specs.Depth.{scaled}
 use Rattle.line.specs.Masks.{flat_mask, flat_mask2}

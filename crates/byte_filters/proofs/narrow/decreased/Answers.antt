@@ -1,4 +1,4 @@
-use native.Mathlib.Omega.{arith}
+use Rattle.std.proofs.Common.{arith}
 use Rattle.byte_filters.specs.SaturatingLaws.{moved}
 use Rattle.lane_filters.specs.RaisedFilter.{decreased}
 use Rattle.byte_filters.proofs.narrow.decreased.Goals as goal

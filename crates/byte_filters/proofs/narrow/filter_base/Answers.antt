@@ -1,6 +1,4 @@
-use mathlib.Core.Path.{◌∙◌, ap}
-use Prim.Native.Nat.{ℕ, ◌-◌, min}
-use native.Mathlib.Omega.{arith}
+use Rattle.std.proofs.Common.{◌∙◌, ap, ℕ, ◌-◌, min, arith}
 use Rattle.byte_filters.specs.SaturatingLaws.{moved}
 use Rattle.lane_filters.specs.RaisedFilter.{raised_base}
 use Rattle.byte_filters.proofs.narrow.filter_base.Goals as goal

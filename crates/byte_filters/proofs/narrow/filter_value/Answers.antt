@@ -1,4 +1,4 @@
-use native.Mathlib.Omega.{arith}
+use Rattle.std.proofs.Common.{arith}
 use Rattle.byte_filters.specs.SaturatingLaws.{moved_thrice}
 use Rattle.lane_filters.specs.RaisedFilter.{raised_filter}
 use Rattle.byte_filters.proofs.narrow.filter_value.Goals as goal

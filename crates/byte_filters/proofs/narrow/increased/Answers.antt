@@ -1,4 +1,4 @@
-use native.Mathlib.Omega.{arith}
+use Rattle.std.proofs.Common.{arith}
 use Rattle.byte_filters.specs.SaturatingLaws.{moved}
 use Rattle.lane_filters.specs.RaisedFilter.{increased}
 use Rattle.byte_filters.proofs.narrow.increased.Goals as goal

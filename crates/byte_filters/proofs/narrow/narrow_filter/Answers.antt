@@ -1,4 +1,4 @@
-use mathlib.Core.Path.{refl}
+use Rattle.std.proofs.Common.{refl}
 use Rattle.base.specs.Depth.{supported}
 use Rattle.lane_filters.specs.RaisedFilterLaws.{narrow_high, narrow_low}
 use Rattle.lane.specs.LaneSamples.{samples_of}

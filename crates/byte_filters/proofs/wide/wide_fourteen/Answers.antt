@@ -1,30 +1,19 @@
-use mathlib.Core.Path.{◌≡◌, subst}
-use mathlib.Core.List.{List}
-use Prim.Native.Nat.{ℕ, ◌<◌}
-use native.Mathlib.Omega.{arith}
-use mir.Syntax.{w8}
-use mir.Val.{Fits}
+use Rattle.std.proofs.Common.{◌≡◌, subst, List, ℕ, ◌<◌, arith, w8, Fits}
 use Rattle.lane.specs.LaneSamples.{fourteen_of, samples_of, put_taps}
 use Rattle.wide_filter.specs.Taps.{tap}
 use Rattle.wide_filter.specs.WideFilter.{wide_filter}
 use Rattle.wide_filter.specs.WideFilterLaws.{wide_below}
 use Rattle.byte_filters.specs.ByteBounds.{bytes_small, tap_fits}
 use Rattle.byte_filters.proofs.wide.wide_fourteen.Goals as goal
-use Rattle.byte_filters.proofs.wide.wide_fourteen.Tie as tie
-use Rattle.byte_filters.proofs.wide.wide_fourteen.Lts as lts
-use Rattle.byte_filters.proofs.wide.wide_fourteen.Reads as reads
-
-abbrev at-After-wide_fourteen_unchecked : Type 0
-at-After-wide_fourteen_unchecked = lts.After-wide_fourteen_unchecked tie.the-claims reads.Pre reads.Post
+use Rattle.byte_filters.proofs.wide.wide_fourteen.Goals.{After-wide_fourteen_unchecked-r}
 
 -- each sample of the line that the code of 16 bits leaves is a byte
-small : (c : at-After-wide_fourteen_unchecked) → (k : ℕ) → k < 16 → Fits w8 (tap (put_taps (samples_of c.widened.result) 1 (fourteen_of c.wide_fourteen_unchecked-r.result)) k)
+small : (c : After-wide_fourteen_unchecked-r) → (k : ℕ) → k < 16 → Fits w8 (tap (put_taps (samples_of c.widened.result) 1 (fourteen_of c.wide_fourteen_unchecked-r.result)) k)
 small c = tap_fits c.wide_fourteen_unchecked-r.ensures (wide_below 256 _ c.widened.ensures.1).1
 
 pub returns : goal.returns
 returns c =
-    let r = c in
-    subst (λ (t : List ℕ). put_taps t 1 (fourteen_of r.wide_fourteen_unchecked-r.result) ≡ wide_filter 4 t) r.widened.ensures.0 r.wide_fourteen_unchecked-r.ensures
+    subst (λ (t : List ℕ). put_taps t 1 (fourteen_of c.wide_fourteen_unchecked-r.result) ≡ wide_filter 4 t) c.widened.ensures.0 c.wide_fourteen_unchecked-r.ensures
 
 pub wide_fourteen_unchecked-r-requires : goal.wide_fourteen_unchecked-r-requires
 wide_fourteen_unchecked-r-requires c =

@@ -1,30 +1,19 @@
-use mathlib.Core.Path.{◌≡◌, subst}
-use mathlib.Core.List.{List}
-use Prim.Native.Nat.{ℕ, ◌<◌}
-use native.Mathlib.Omega.{arith}
-use mir.Syntax.{w8}
-use mir.Val.{Fits}
+use Rattle.std.proofs.Common.{◌≡◌, subst, List, ℕ, ◌<◌, arith, w8, Fits}
 use Rattle.lane.specs.LaneSamples.{six_of, samples_of, put_taps}
 use Rattle.wide_filter.specs.Taps.{tap}
 use Rattle.wide_filter.specs.WideFilter.{wide_filter}
 use Rattle.wide_filter.specs.WideFilterLaws.{wide_below}
 use Rattle.byte_filters.specs.ByteBounds.{bytes_small, tap_fits}
 use Rattle.byte_filters.proofs.wide.wide_six.Goals as goal
-use Rattle.byte_filters.proofs.wide.wide_six.Tie as tie
-use Rattle.byte_filters.proofs.wide.wide_six.Lts as lts
-use Rattle.byte_filters.proofs.wide.wide_six.Reads as reads
-
-abbrev at-After-wide_six_unchecked : Type 0
-at-After-wide_six_unchecked = lts.After-wide_six_unchecked tie.the-claims reads.Pre reads.Post
+use Rattle.byte_filters.proofs.wide.wide_six.Goals.{After-wide_six_unchecked-r}
 
 -- each sample of the line that the code of 16 bits leaves is a byte
-small : (c : at-After-wide_six_unchecked) → (k : ℕ) → k < 16 → Fits w8 (tap (put_taps (samples_of c.widened.result) 5 (six_of c.wide_six_unchecked-r.result)) k)
+small : (c : After-wide_six_unchecked-r) → (k : ℕ) → k < 16 → Fits w8 (tap (put_taps (samples_of c.widened.result) 5 (six_of c.wide_six_unchecked-r.result)) k)
 small c = tap_fits c.wide_six_unchecked-r.ensures (wide_below 256 _ c.widened.ensures.1).0
 
 pub returns : goal.returns
 returns c =
-    let r = c in
-    subst (λ (t : List ℕ). put_taps t 5 (six_of r.wide_six_unchecked-r.result) ≡ wide_filter 3 t) r.widened.ensures.0 r.wide_six_unchecked-r.ensures
+    subst (λ (t : List ℕ). put_taps t 5 (six_of c.wide_six_unchecked-r.result) ≡ wide_filter 3 t) c.widened.ensures.0 c.wide_six_unchecked-r.ensures
 
 pub wide_six_unchecked-r-requires : goal.wide_six_unchecked-r-requires
 wide_six_unchecked-r-requires c =

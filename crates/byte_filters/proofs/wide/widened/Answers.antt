@@ -1,4 +1,4 @@
-use native.Mathlib.Omega.{arith}
+use Rattle.std.proofs.Common.{arith}
 use Rattle.wide_filter.specs.WideSums.{most_none, most_next}
 use Rattle.byte_filters.specs.ByteBounds.{most_within}
 use Rattle.byte_filters.proofs.wide.widened.Goals as goal

@@ -1,4 +1,4 @@
-use native.Mathlib.Omega.{arith}
+use Rattle.std.proofs.Common.{arith}
 use Rattle.lane_filters.specs.RaisedFilter.{raised_eighth}
 use Rattle.lane_filters.proofs.narrow.eighth.Goals as goal
 

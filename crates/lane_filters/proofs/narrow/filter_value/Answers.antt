@@ -1,4 +1,4 @@
-use native.Mathlib.Omega.{arith}
+use Rattle.std.proofs.Common.{arith}
 use Rattle.lane_filters.specs.RaisedFilter.{raised_filter}
 use Rattle.lane_filters.proofs.narrow.filter_value.Goals as goal
 

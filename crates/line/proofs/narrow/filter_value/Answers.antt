@@ -1,11 +1,5 @@
-use mathlib.Core.Path.{◌≡◌}
-use mathlib.Core.Bool.{Bool, cond}
-use Prim.Native.Nat.{ℕ, ◌<◌}
-use native.Mathlib.Omega.{arith}
-use lib.IntN.{ℤ, pos, ◌+ℤ◌, ◌-ℤ◌, ◌*ℤ◌}
-use lib.Signed.{mag}
-use mir.Syntax.{w32}
-use mir.Val.{SFits}
+use Rattle.std.proofs.Common.{◌≡◌, Bool, cond, ℕ, ◌<◌, arith, ℤ, pos, ◌+ℤ◌, ◌-ℤ◌, ◌*ℤ◌, w32, SFits}
+use Rattle.std.specs.Int.Signed.{mag}
 use Rattle.base.specs.Machine.{back, read, Far, far_read, plus_fits, plus_read, minus_fits, minus_read}
 use Rattle.base.specs.NotationLaws.{mag_minus, mag_triple}
 use Rattle.line.specs.NarrowFilter.{c}

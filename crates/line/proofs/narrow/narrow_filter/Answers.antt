@@ -1,11 +1,5 @@
-use mathlib.Core.Path.{◌≡◌}
-use mathlib.Core.Bool.{Bool, cond}
-use mathlib.Core.List.{List}
-use Prim.Native.Nat.{ℕ, ◌<◌}
-use native.Mathlib.Omega.{arith}
-use lib.IntN.{ℤ, pos, ◌+ℤ◌, ◌-ℤ◌, ◌*ℤ◌}
-use lib.ListN.{set}
-use lib.Signed.{mag}
+use Rattle.std.proofs.Common.{◌≡◌, Bool, cond, List, ℕ, ◌<◌, arith, ℤ, pos, ◌+ℤ◌, ◌-ℤ◌, ◌*ℤ◌, set}
+use Rattle.std.specs.Int.Signed.{mag}
 use Rattle.base.specs.Machine.{read, Far, far_read, plus_fits, plus_read, minus_fits, minus_read}
 use Rattle.base.specs.Notation.{asr_z, round2_z}
 use Rattle.line.specs.NarrowFilter.{c, signed, sample, narrow_filter}

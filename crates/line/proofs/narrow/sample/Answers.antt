@@ -1,6 +1,4 @@
-use Prim.Native.Nat.{◌-◌, ◌*◌, ◌^◌}
-use native.Mathlib.Omega.{arith}
-use mir.Facts.{to_z-of_z}
+use Rattle.std.proofs.Common.{◌-◌, ◌*◌, ◌^◌, arith, to_z-of_z}
 use Rattle.base.specs.Depth.{depth_scaled}
 use Rattle.base.specs.Machine.{plus_read}
 use Rattle.line.specs.NarrowFilter.{c, sample}
