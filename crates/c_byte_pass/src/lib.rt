@@ -17,6 +17,7 @@ use superblock_pass::superblock_loop_filter_cells;
 use window::WindowShape;
 
 // As springspade_pass over bytes, the words of the cells too.
+#[tactic(auto, using(c_border::specs::BorderLaws::crossed_as, pass::specs::PassLaws::pass_place))]
 pub fn springspade_pass_bytes(
     samples: &mut [u8],
     cells: &[u8],

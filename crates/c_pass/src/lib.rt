@@ -16,6 +16,7 @@ use superblock_pass::superblock_loop_filter_cells;
 use window::WindowShape;
 
 // Filters the superblock at mi_row, mi_col of a plane in place: vertical edges (pass 0) or horizontal ones (pass 1).
+#[tactic(auto, using(c_border::specs::BorderLaws::crossed_as, pass::specs::PassLaws::pass_place))]
 pub fn springspade_pass(
     samples: &mut [u16],
     cells: &[u32],

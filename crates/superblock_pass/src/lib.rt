@@ -47,6 +47,7 @@ pub fn superblock_loop_filter_unchecked<S: PassSample, C: Words>(
 }
 
 // All but the levels is tested. The keys tell whether one lacks, and are what the work goes by: nothing is decided twice.
+#[tactic(auto, using(base::specs::First::no_place))]
 fn test_levels_and_filter<S: PassSample, C: Words>(
     samples: &mut [S],
     g: WindowShape,

@@ -1,7 +1,6 @@
 use Rattle.std.proofs.Common.{[]}
 use Rattle.base.specs.Outcome.{accepted}
 use Rattle.faults.specs.FaultsLaws.{lent_passed}
-use Rattle.pass.proofs.Refusals.{answers_on}
 use Rattle.window.specs.RangeLaws.{tested_range}
 use Rattle.superblock_pass.proofs.test_lists_and_filter.Goals as goal
 
@@ -10,6 +9,3 @@ test_levels_and_filter-requires g c =
     let a = c.args in
     let l = lent_passed a.g a.t.s.of a.t.depth.bits (g.C.Words.words a.cells) (g.S.PlaneSample.values a.samples.now) _ (c.in_ok-list_faults_unchecked.ensures (accepted [])) in
     (record { window = l.1; range = tested_range _ _ _ l.2; placed = a.t.s.placed; cells = c.requires.0; sharpness = a.t.sharpness.small; depth = a.t.depth.known }, c.requires.1)
-
-pub returns : goal.returns
-returns g c = answers_on _ _ _ _ _ (c.in_ok-list_faults_unchecked.ensures _) c.test_levels_and_filter.ensures
