@@ -15,6 +15,7 @@ use plane_window::pass_plane;
 use window::WindowShape;
 
 // As springspade_pass, with the numbers behind the window in a record.
+#[tactic(auto, using(c_border::specs::BorderLaws::crossed_as, pass::specs::PassLaws::pass_place))]
 pub fn springspade_pass_window(
     samples: &mut [u16],
     cells: &[u32],

@@ -12,6 +12,7 @@ use window::WindowShape;
 
 // As springspade_pass, over cell records in place of words, with the numbers behind the window in a record.
 // Plain parameters, since C calls it.
+#[tactic(auto, using(c_border::specs::BorderLaws::crossed_as, pass::specs::PassLaws::pass_place))]
 pub fn springspade_pass_records(
     samples: &mut [u16],
     records: &[CellRecord],
