@@ -1,10 +1,10 @@
 -- How a signed number stands in the machine: as bits, from which it is read back. For the proofs of functions.
 -- Assumes nothing.
 use Rattle.std.specs.Prelude.{◌≡◌, ℕ, ◌^◌, ◌<◌, ℤ, ◌+ℤ◌, ◌-ℤ◌}
-use Rattle.std.proofs.Common.{arith, to_z-of_z}
+use Rattle.std.proofs.Common.{arith, to_z-of_z, SFits, to_z, of_z}
 use Rattle.std.specs.Int.Signed.{mag, shr_z, mag_shr}
 use Rattle.std.specs.Int.{Width, w32}
-use mir.Val.{SFits, hbits, to_z, of_z}
+use mir.Val.{hbits}
 use Rattle.base.specs.NotationLaws.{mag_add, mag_minus}
 
 pub back : (w : Width) {z : ℤ} → mag z < 2 ^ hbits w → to_z w (of_z w z) ≡ z

@@ -26,6 +26,7 @@ pub struct Strength {
 }
 
 // The strength of the line filter for a level and the frame's sharpness.
+#[tactic(auto, unfolding(strength::specs::Strength::strength_for))]
 pub fn springspade_strength(level: u8, sharpness: u8) -> Strength
     ensures { result ≡ entry_of (strength_for level sharpness) }
 {

@@ -1,10 +1,9 @@
 -- Over the words that the row makes from mode info, the pass is the standard's: its positions, their sizes and levels, and in a
 -- window that is the whole plane every sample (`pass_standard`).
 -- Assumes nothing.
-use Rattle.std.specs.Prelude.{◌≡◌}
+use Rattle.std.specs.Prelude.{◌≡◌, List, ℕ, ◌<◌}
 use Rattle.std.proofs.Common.{arith}
-use mathlib.Core.List.{List, Memᴰ}
-use Prim.Native.Nat.{ℕ, ◌<◌}
+use mathlib.Core.List.{Memᴰ}
 use Rattle.base.specs.Notation.{◌>>◌}
 use Rattle.decided.specs.Decided.{Position, position, Setting, decision_at, decided}
 use Rattle.geometry.specs.declared.Pass.{Pass}
