@@ -1,7 +1,6 @@
 use Rattle.std.proofs.Common.{◌≡◌, ◌∙◌, subst, List, ℕ, arith}
-use Rattle.lane.specs.LaneSamples.{samples_of, six_of, fourteen_of, put_taps}
+use Rattle.lane.specs.LaneSamples.{six_of, fourteen_of, put_taps}
 use Rattle.line.specs.SampleFilteringLaws.{filters_narrow, filters-six, filters-fourteen}
-use Rattle.wide_filter.specs.Taps.{Within}
 use Rattle.wide_filter.specs.WideFilter.{wide_filter}
 use Rattle.line.proofs.sample_filtering_unchecked.Goals as goal
 

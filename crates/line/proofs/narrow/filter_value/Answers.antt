@@ -1,6 +1,6 @@
 use Rattle.std.proofs.Common.{◌≡◌, Bool, cond, ℕ, ◌<◌, arith, ℤ, pos, ◌+ℤ◌, ◌-ℤ◌, ◌*ℤ◌, w32, SFits}
 use Rattle.std.specs.Int.Signed.{mag}
-use Rattle.base.specs.Machine.{back, read, Far, far_read, plus_fits, plus_read, minus_fits, minus_read}
+use Rattle.base.specs.Machine.{back, read, Far, far_read, plus_fits, plus_read, minus_read}
 use Rattle.base.specs.NotationLaws.{mag_minus, mag_triple}
 use Rattle.line.specs.NarrowFilter.{c}
 use Rattle.line.proofs.narrow.filter_value.Goals as goal
@@ -30,22 +30,6 @@ value B hev ps1 ps0 qs0 qs1 base r p1 p0 q0 q1 s e f =
       far_read (far q1),
     )
     at f
-
-pub filter_base-base-requires : goal.filter_base-base-requires
-filter_base-base-requires x =
-    let (p1, p0, q0, q1) = x.requires in
-    rw (far_read (far p1), far_read (far q1)) (p1, q1)
-
-pub overflow_sub-qs0 : goal.overflow_sub-qs0
-overflow_sub-qs0 x = let (p1, p0, q0, q1) = x.requires in minus_fits x.args.qs0 x.args.ps0 (far q0) (far p0)
-
-pub overflow_mul-qs0 : goal.overflow_mul-qs0
-overflow_mul-qs0 x = let (p1, p0, q0, q1) = x.requires in triple_fits x.args.qs0 x.args.ps0 q0 p0
-
-pub overflow_add-base : goal.overflow_add-base
-overflow_add-base x =
-    let (p1, p0, q0, q1) = x.requires in
-    sum_fits x.filter_base-base.result x.args.qs0 x.args.ps0 x.filter_base-base.ensures.1 q0 p0
 
 pub returns : goal.returns
 returns x =

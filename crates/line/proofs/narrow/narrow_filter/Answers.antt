@@ -1,6 +1,6 @@
 use Rattle.std.proofs.Common.{◌≡◌, Bool, cond, List, ℕ, ◌<◌, arith, ℤ, pos, ◌+ℤ◌, ◌-ℤ◌, ◌*ℤ◌, set}
 use Rattle.std.specs.Int.Signed.{mag}
-use Rattle.base.specs.Machine.{read, Far, far_read, plus_fits, plus_read, minus_fits, minus_read}
+use Rattle.base.specs.Machine.{read, Far, far_read, plus_read, minus_read}
 use Rattle.base.specs.Notation.{asr_z, round2_z}
 use Rattle.line.specs.NarrowFilter.{c, signed, sample, narrow_filter}
 use Rattle.wide_filter.specs.Taps.{p, q}
@@ -33,34 +33,6 @@ narrow_is B hev t ps1 ps0 qs0 qs1 f f1 f2 q0 p0 (e1, b1) (e0, b0) (d0, a0) (d1, 
       d1,
     )
 
-pub filter_value-filter-requires : goal.filter_value-filter-requires
-filter_value-filter-requires x =
-    let at-signed3 = x in
-    let at-signed2 = at-signed3 in
-    let at-signed = at-signed2 in
-    let b1 = at-signed.signed-ps1.ensures.1 in
-    let b0 = at-signed2.signed-ps0.ensures.1 in
-    let a0 = at-signed3.signed-qs0.ensures.1 in
-    let a1 = x.signed-qs1.ensures.1 in
-    rw (far_read (far {z = at-signed.signed-ps1.result} b1), far_read (far {z = at-signed2.signed-ps0.result} b0), far_read (far {z = at-signed3.signed-qs0.result} a0), far_read (far {z = x.signed-qs1.result} a1))
-    (b1, b0, a0, a1)
-
-pub overflow_add-filter : goal.overflow_add-filter
-overflow_add-filter x = plus_fits x.filter_value-filter.result (pos 4) (far (omega arith)) (far (omega arith))
-
-pub overflow_add-filter-2 : goal.overflow_add-filter-2
-overflow_add-filter-2 x = plus_fits x.filter_value-filter.result (pos 3) (far (omega arith)) (far (omega arith))
-
-pub overflow_sub-qs0 : goal.overflow_sub-qs0
-overflow_sub-qs0 x =
-    let at-signed3 = x in
-    minus_fits at-signed3.signed-qs0.result x.eighth-filter1.result (far at-signed3.signed-qs0.ensures.1) (far (omega arith))
-
-pub overflow_add-ps0 : goal.overflow_add-ps0
-overflow_add-ps0 x =
-    let at-signed2 = x in
-    plus_fits at-signed2.signed-ps0.result x.eighth-filter2.result (far at-signed2.signed-ps0.ensures.1) (far (omega arith))
-
 -- the filter after p0 and q0 are stored
 filtered : (x : goal.Then-hev) → let signed4 = x in let signed = signed4 in let a = signed.args in let t = set (set a.t.now 8 x.sample.result) 7 x.sample-2.result in let f1 = x.eighth-filter1.result in cond a.hev t (set (set t 9 (sample a.depth.bits (signed4.signed-qs1.result -ℤ round2_z f1 1))) 6 (sample a.depth.bits (signed.signed-ps1.result +ℤ round2_z f1 1))) ≡ narrow_filter a.depth.bits a.hev a.t.now
 filtered x =
@@ -91,21 +63,6 @@ filtered2 x =
 
 pub returns-then-hev : goal.returns-then-hev
 returns-then-hev x = rw (← filtered x, x.if-hev.true)
-
-pub rounded_half-rounded-requires : goal.rounded_half-rounded-requires
-rounded_half-rounded-requires x =
-    let at-eighth = x in
-    rw (far_read (far {z = at-eighth.eighth-filter1.result} (omega arith))) at-eighth.eighth-filter1.ensures.1
-
-pub overflow_sub-qs1 : goal.overflow_sub-qs1
-overflow_sub-qs1 x =
-    let at-signed4 = x in
-    minus_fits at-signed4.signed-qs1.result x.rounded_half-rounded.result (far at-signed4.signed-qs1.ensures.1) (far (omega arith))
-
-pub overflow_add-ps1 : goal.overflow_add-ps1
-overflow_add-ps1 x =
-    let at-signed = x in
-    plus_fits at-signed.signed-ps1.result x.rounded_half-rounded.result (far at-signed.signed-ps1.ensures.1) (far (omega arith))
 
 pub returns : goal.returns
 returns x =
