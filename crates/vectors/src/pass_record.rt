@@ -5,10 +5,10 @@ use crate::numbers::{is_answer, size16_at, size32_at, u16_at, u32_at};
 use base::fault::Fault;
 use cell_records::{CellRecord, record_of};
 use geometry::pass_numbers::PassNumbers;
-use superblock_pass::superblock_loop_filter_cells;
 use plane_window::pass_plane;
 use record_replay::pass_front_unchecked;
 use std::array;
+use superblock_pass::superblock_loop_filter_cells;
 use window::WindowShape;
 
 // A record has room for so many cells and samples.
