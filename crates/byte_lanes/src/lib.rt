@@ -45,7 +45,11 @@ fn any_arm(arms: &[Arm; 16], arm: Arm) -> bool
 }
 
 // Filters each lane by its key. A loop that would change no lane is left out.
-pub fn filter_byte_lanes_unchecked(t: &mut [u8; 256], keys: &LaneKeys, sharpness: Sharpness) -> Changed
+pub fn filter_byte_lanes_unchecked(
+    t: &mut [u8; 256],
+    keys: &LaneKeys,
+    sharpness: Sharpness,
+) -> Changed
     requires { length t.old ≡ 256 }
     ensures { Filtered sharpness.level keys.now.of t.old t.new result }
 {

@@ -18,13 +18,16 @@ loop-small-preserved c =
     let steps = c.in-Some.ensures.steps in
     let rest = runs_left c.next.new.self in
     let filtered = filtered_on a.g a.s.of a.pass a.sharpness.level a.depth.bits run steps.1 _ _ _
-        c.plane_x-x.ensures.0 c.plane_y-y.ensures.0 c.strength_unchecked-strength.ensures _ _ c.filter_run_unchecked.ensures in
-    let on = after_run a.s.of a.pass a.sharpness.level a.depth.bits run loop.invariant.1 loop.invariant.2 a.depth.known filtered in
-    (c.in-Some.ensures.goes.keeps, on.0, on.1,
-    ap (runs_filtered a.g a.s.of a.pass a.sharpness.level a.depth.bits rest) filtered
-    ∙ runs_next a.g a.s.of a.pass a.sharpness.level a.depth.bits run rest loop.samples
-    ∙ ap (λ (l : List EdgeRun). runs_filtered a.g a.s.of a.pass a.sharpness.level a.depth.bits l loop.samples) (sym steps.0)
-    ∙ loop.invariant.3)
+    c.plane_x-x.ensures.0 c.plane_y-y.ensures.0 c.strength_unchecked-strength.ensures _ _ c.filter_run_unchecked.ensures in
+    let on = after_run a.s.of a.pass a.sharpness.level a.depth.bits run loop.invariant.1 loop.invariant.2 a.depth.known filtered in (
+      c.in-Some.ensures.goes.keeps,
+      on.0,
+      on.1,
+      ap (runs_filtered a.g a.s.of a.pass a.sharpness.level a.depth.bits rest) filtered
+          ∙ runs_next a.g a.s.of a.pass a.sharpness.level a.depth.bits run rest loop.samples
+          ∙ ap (λ (l : List EdgeRun). runs_filtered a.g a.s.of a.pass a.sharpness.level a.depth.bits l loop.samples) (sym steps.0)
+          ∙ loop.invariant.3,
+    )
 
 pub returns : goal.returns
 returns c =
