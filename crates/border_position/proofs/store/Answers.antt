@@ -5,8 +5,5 @@ use Rattle.border_position.proofs.store.Goals as goal
 pub loop-k-init : goal.loop-k-init
 loop-k-init g c = scatter_none _ _ _ _
 
-pub write_tap-requires : goal.write_tap-requires
-write_tap-requires g c = let k = c.loop-k-test.true in (rw c.loop-k.auto.samples c.requires.0, k, c.requires.1.each c.loop-k.k k)
-
 pub loop-k-preserved : goal.loop-k-preserved
 loop-k-preserved g c = scatter_next _ _ _ c.loop-k.k _ _ _ c.write_tap.ensures c.loop-k.invariant
