@@ -1,11 +1,10 @@
-use Rattle.std.proofs.Common.{◌≡◌, sym, ◌∙◌, List, [], ℕ, ◌*◌, Option, arith}
+use Rattle.std.proofs.Common.{◌≡◌, sym, ◌∙◌, List, [], ℕ, ◌*◌, Option, ltb, arith}
 use Rattle.base.specs.First.{first_is, first_found, place_found, no_place}
 use Rattle.bad_words.specs.BadWord.{bad_cell}
 use Rattle.decided.specs.Decided.{superblock_of}
 use Rattle.decisions.specs.Decision.{levelless}
 use Rattle.geometry.specs.declared.Pass.{Pass}
 use Rattle.geometry.specs.declared.Superblock.{Superblock}
-use lib.Dec.{ltb}
 use Rattle.sheet_header.specs.declared.SheetHeader.{SheetHeader}
 use Rattle.decided.proofs.KeyRunLaws.{key_runs_lem}
 use Rattle.pass_edges.specs.PassEdges.{pass_of, edge_count}

@@ -1,12 +1,7 @@
-use borrow.Author.Tests.{lt-ltb, le-ltb}
-use mathlib.Core.Path.{refl, ap, ◌∙◌}
-use native.Mathlib.Nat.{zero-add}
-use native.Mathlib.Omega.{arith}
-use lib.ListN.{length}
+use Rattle.std.proofs.Common.{lt-ltb, le-ltb, refl, ap, ◌∙◌, zero-add, arith, length, Some}
 use Rattle.sheet.specs.Sheet.{run_sheet}
 use Rattle.sheet.specs.SheetAnswers.{answer_of, text_of}
 use Rattle.sheet.specs.SheetFits.{sheet_fits}
-use Rattle.std.specs.Prelude.{Some}
 use Rattle.text.specs.TextLaws.{written-front}
 use Rattle.sheet.proofs.run_sheet.Goals as goal
 
