@@ -31,6 +31,7 @@ use sheet_header::{SheetHeader, bad_header, header_of_unchecked};
 use sheet_lines::{print_first_unchecked, print_refusal_unchecked};
 
 // A refusal is the whole text.
+#[tactic(auto, using(crate::specs::SheetLaws::number_small))]
 fn print_fault(out: &mut [u8], fault: Fault) -> usize
     requires { place_of fault < 10000 }
     ensures { Put 0 (refusal_line (number_of fault) (place_of fault)) out.old out.new result }
