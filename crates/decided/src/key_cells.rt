@@ -46,7 +46,7 @@ impl<'a> Iterator for KeyCells<'a> {
 
     ghost remaining = { item_count cells_left };
 
-    // Level 0 filters nothing.
+    // Level 0 filters nothing. The place is counted by hand, since it is what the iterator keeps from call to call.
     #[inline(always)]
     fn next(&mut self) -> Option<SmallRun> {
         while self.at < self.count {

@@ -11,6 +11,8 @@ use strength::FilterStrength;
 use tap_places::run_start::RunStart;
 use window::WindowShape;
 
+// Positions are numbers: no list is walked. Bytes have a loop of their own, since there each position has a key: one function that a
+// closure tells what filters a position had more clauses than the two loops have lines.
 pub(crate) fn filter_border(
     samples: &mut [u16],
     g: WindowShape,
