@@ -1,4 +1,5 @@
-// The limits of a level (8.8.4).
+// The limits of a level (8.8.4), computed: document 01 wants them in one table, which strength has, but a loop over lanes that
+// read it at a place for each lane would make no vectors.
 ghost use Rattle.std.specs.Prelude.{◌≡◌, ◌+◌, ◌*◌, ◌≤◌, ◌<◌};
 ghost use Rattle.strength.specs.Strength.{shift, limit_of};
 ghost use Rattle.byte_filters.specs.TopLimit.{top_limit};
@@ -18,11 +19,7 @@ fn shift_of(sharpness: Sharpness) -> u8
 fn top_of(sharpness: Sharpness) -> u8
     ensures { (result ≡ top_limit sharpness.level) × (0 < result) × (result ≤ 63) }
 {
-    if sharpness.level == 0 {
-        63
-    } else {
-        9 - sharpness.level
-    }
+    if sharpness.level == 0 { 63 } else { 9 - sharpness.level }
 }
 
 pub(crate) fn limit_of(level: u8, sharpness: Sharpness) -> u8

@@ -1,4 +1,4 @@
-use mathlib.Core.Path.{◌≡◌}
+use Rattle.std.proofs.Common.{◌≡◌}
 use Rattle.strength.specs.Strength.{limit_of}
 use Rattle.strength.specs.StrengthLaws.{limit_small}
 use Rattle.byte_filters.specs.TopLimit.{limit_is}
