@@ -13,9 +13,9 @@ mod narrow;
 mod wide;
 
 use base::sharpness::Sharpness;
-use line::masks::{filter_mask_unchecked, flat_mask, flat_mask2, hev_mask};
 use lane::{Four, Lane, Six};
 use limits::{blimit_of, limit_of};
+use line::masks::{filter_mask_unchecked, flat_mask, flat_mask2, hev_mask};
 use narrow::narrow_filter;
 use wide::{wide_fourteen, wide_six};
 

@@ -19,7 +19,11 @@ fn shift_of(sharpness: Sharpness) -> u8
 fn top_of(sharpness: Sharpness) -> u8
     ensures { (result ≡ top_limit sharpness.level) × (0 < result) × (result ≤ 63) }
 {
-    if sharpness.level == 0 { 63 } else { 9 - sharpness.level }
+    if sharpness.level == 0 {
+        63
+    } else {
+        9 - sharpness.level
+    }
 }
 
 pub(crate) fn limit_of(level: u8, sharpness: Sharpness) -> u8

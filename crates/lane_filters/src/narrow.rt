@@ -1,14 +1,22 @@
 // The narrow filter (8.8.5.4) on numbers without a sign: each value is raised by half its range, so that 16 bits are enough
-// and a subtraction that stops at 0 clips from below. `one` is the scale of the depth. Bytes have a narrow filter of their
-// own: a byte ends where their range does, so that they need no cap and stay in 8 bits.
+// and a subtraction that stops at 0 clips from below. Bytes have a narrow filter of their own: a byte ends where their range
+// does, so that they need no cap and stay in 8 bits.
 ghost use Rattle.std.specs.Prelude.{◌≡◌, ◌-◌, ◌*◌, ◌≤◌, ◌<◌, min};
 ghost use Rattle.line.specs.NarrowFilter.{narrow_filter};
 ghost use Rattle.lane.specs.LaneSamples.{samples_of, four_of, put_taps};
 ghost use Rattle.lane_filters.specs.Small.{Small};
 ghost use Rattle.lane_filters.specs.RaisedFilter.{raised_base, raised_filter, raised_eighth, raised_half, increased, decreased};
 
-use lane::{Four, Lane};
 use base::depth::Depth;
+use lane::{Four, Lane};
+
+// The scale of the depth.
+#[derive(Clone, Copy)]
+struct Scale {
+    one: u16,
+    ghost some: { 0 < one },
+    ghost few: { one ≤ 16 },
+}
 
 // x less y, at least 0 and at most top.
 fn capped(x: u16, y: u16, top: u16) -> u16
@@ -18,31 +26,31 @@ fn capped(x: u16, y: u16, top: u16) -> u16
 }
 
 // Step 2: the outer taps count where the variance is high.
-fn filter_base(p1: u16, q1: u16, hev: bool, one: u16) -> u16
-    requires { (0 < one) × (one ≤ 16) × (p1 < 4096) }
-    ensures { (result ≡ raised_base one hev p1 q1) × (result < 256 * one) }
+fn filter_base(p1: u16, q1: u16, hev: bool, s: Scale) -> u16
+    requires { p1 < 4096 }
+    ensures { (result ≡ raised_base s.one hev p1 q1) × (result < 256 * s.one) }
 {
     if hev {
-        capped(p1 + 128 * one, q1, 256 * one - 1)
+        capped(p1 + 128 * s.one, q1, 256 * s.one - 1)
     } else {
-        128 * one
+        128 * s.one
     }
 }
 
 // Step 3.
-fn filter_value(base: u16, p0: u16, q0: u16, one: u16) -> u16
-    requires { (0 < one) × (one ≤ 16) × (base < 256 * one) × (p0 < 4096) × (q0 < 4096) }
-    ensures { (result ≡ raised_filter one base p0 q0) × (result < 256 * one) }
+fn filter_value(base: u16, p0: u16, q0: u16, s: Scale) -> u16
+    requires { (base < 256 * s.one) × (p0 < 4096) × (q0 < 4096) }
+    ensures { (result ≡ raised_filter s.one base p0 q0) × (result < 256 * s.one) }
 {
-    capped(base + 3 * q0, 3 * p0, 256 * one - 1)
+    capped(base + 3 * q0, 3 * p0, 256 * s.one - 1)
 }
 
 // c( filter + n ) >> 3.
-fn eighth(filter: u16, n: u16, one: u16) -> u16
-    requires { (0 < one) × (one ≤ 16) × (filter < 256 * one) × (n ≤ 4) }
-    ensures { (result ≡ raised_eighth one filter n) × (result < 32 * one) }
+fn eighth(filter: u16, n: u16, s: Scale) -> u16
+    requires { (filter < 256 * s.one) × (n ≤ 4) }
+    ensures { (result ≡ raised_eighth s.one filter n) × (result < 32 * s.one) }
 {
-    (filter + n).min(256 * one - 1) / 8
+    (filter + n).min(256 * s.one - 1) / 8
 }
 
 // Round2( filter, 1 ).
@@ -55,18 +63,18 @@ fn rounded_half(filter: u16) -> u16
 
 // A sample with a value that is raised by k added, or taken away.
 
-fn increased(x: u16, value: u16, k: u16, one: u16) -> u16
-    requires { (0 < one) × (one ≤ 16) × (value < 512) × (x < 4096) }
-    ensures { result ≡ increased one x value k }
+fn increased(x: u16, value: u16, k: u16, s: Scale) -> u16
+    requires { (value < 512) × (x < 4096) }
+    ensures { result ≡ increased s.one x value k }
 {
-    capped(x + value, k, 256 * one - 1)
+    capped(x + value, k, 256 * s.one - 1)
 }
 
-fn decreased(x: u16, value: u16, k: u16, one: u16) -> u16
-    requires { (0 < one) × (one ≤ 16) × (k < 512) × (x < 4096) }
-    ensures { result ≡ decreased one x value k }
+fn decreased(x: u16, value: u16, k: u16, s: Scale) -> u16
+    requires { (k < 512) × (x < 4096) }
+    ensures { result ≡ decreased s.one x value k }
 {
-    capped(x + k, value, 256 * one - 1)
+    capped(x + k, value, 256 * s.one - 1)
 }
 
 #[tactic(auto, using(base::specs::Depth::depth_scaled))]
@@ -75,12 +83,13 @@ pub(crate) fn narrow_filter(a: Lane<u16>, hev: bool, depth: Depth) -> Four<u16>
     ensures { put_taps (samples_of a) 6 (four_of result) ≡ narrow_filter depth.bits hev (samples_of a) }
 {
     let one = depth.scaled(1);
-    let base = filter_base(a.p1, a.q1, hev, one);
-    let filter = filter_value(base, a.p0, a.q0, one);
-    let filter1 = eighth(filter, 4, one);
-    let filter2 = eighth(filter, 3, one);
-    let p0 = increased(a.p0, filter2, 16 * one, one);
-    let q0 = decreased(a.q0, filter1, 16 * one, one);
+    let s = Scale { one };
+    let base = filter_base(a.p1, a.q1, hev, s);
+    let filter = filter_value(base, a.p0, a.q0, s);
+    let filter1 = eighth(filter, 4, s);
+    let filter2 = eighth(filter, 3, s);
+    let p0 = increased(a.p0, filter2, 16 * one, s);
+    let q0 = decreased(a.q0, filter1, 16 * one, s);
     if hev {
         return Four {
             p1: a.p1,
@@ -90,7 +99,7 @@ pub(crate) fn narrow_filter(a: Lane<u16>, hev: bool, depth: Depth) -> Four<u16>
         };
     }
     let rounded = rounded_half(filter1);
-    let p1 = increased(a.p1, rounded, 8 * one, one);
-    let q1 = decreased(a.q1, rounded, 8 * one, one);
+    let p1 = increased(a.p1, rounded, 8 * one, s);
+    let q1 = decreased(a.q1, rounded, 8 * one, s);
     Four { p1, p0, q0, q1 }
 }

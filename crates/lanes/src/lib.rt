@@ -9,9 +9,7 @@ pub mod table;
 
 use base::depth::Depth;
 use lane::Lane;
-use lane_filters::{
-    lane_four_unchecked, lane_fourteen_unchecked, lane_mask, lane_six_unchecked,
-};
+use lane_filters::{lane_four_unchecked, lane_fourteen_unchecked, lane_mask, lane_six_unchecked};
 use strength::FilterStrength;
 use table::{each_lane_unchecked, lane_at_unchecked};
 

@@ -4,8 +4,8 @@ ghost use Rattle.std.proofs.Common.{lit≤};
 ghost use Rattle.lane.specs.LaneSamples.{values_of, four_of, six_of, fourteen_of};
 ghost use Rattle.lanes.specs.Lanes.{lane_in, lane_of, put_lane, EachLane, Follows};
 
-use line::masks::Sample;
 use lane::{Four, Lane, Six};
+use line::masks::Sample;
 
 pub fn lane_at_unchecked<T: Copy>(t: &[T; 256], l: usize) -> Lane<T>
     requires { l < 16 }

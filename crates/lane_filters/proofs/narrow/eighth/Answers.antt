@@ -4,4 +4,4 @@ use Rattle.lane_filters.proofs.narrow.eighth.Goals as goal
 
 pub returns : goal.returns
 unfolding raised_eighth
-returns c = (rw c.min.ensures, omega arith)
+returns c = (rw c.min.ensures, omega (arith, c.args.s.some, c.args.s.few))

@@ -4,4 +4,4 @@ use Rattle.lane_filters.proofs.narrow.filter_value.Goals as goal
 
 pub returns : goal.returns
 unfolding raised_filter
-returns c = (c.capped.ensures, omega arith)
+returns c = (c.capped.ensures, omega (arith, c.args.s.some, c.args.s.few))
