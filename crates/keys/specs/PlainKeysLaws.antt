@@ -1,12 +1,19 @@
 -- The keys and words of one edge pair, behind those of the pairs before it.
 -- Assumes nothing.
-use Rattle.std.specs.Prelude.{◌≡◌, Bool, ◌||◌, List, ℕ, ◌+◌, ◌*◌, ◌/◌, ◌%◌, ◌<◌, length, get_or}
-use Rattle.std.proofs.Common.{zero-add, arith}
+use Rattle.std.specs.Prelude.{◌≡◌, Bool, true, false, cond, ◌||◌, List, ℕ, ◌+◌, ◌*◌, ◌/◌, ◌%◌, ◌<◌, length, get_or}
+use Rattle.std.proofs.Common.{◌∙◌, zero-add, mul-le-mul, arith}
 use Rattle.std.proofs.Math.Nat.{add-zero}
 use Rattle.base.specs.Filled.{filled, filled_join, filled_same}
 use Rattle.base.specs.First.{found}
 use Rattle.base.specs.FirstLaws.{found_join, found_same}
-use Rattle.keys.specs.PlainKeys.{limits_of, key_by, lack_by, plain_key, plain_lack, base_of, place_from, clamped, word_from, word_in}
+use Rattle.geometry.specs.Frame.{rows_from, cells_from}
+use Rattle.geometry.specs.declared.Pass.{Pass}
+use Rattle.geometry.specs.declared.Pass.TheVariants.{Vertical, Horizontal}
+use Rattle.geometry.specs.declared.Superblock.{Superblock}
+use Rattle.positions.specs.Positions.{Placed}
+use Rattle.word_bytes.specs.WordBytes.{bytes_at, words_of}
+use Rattle.word_bytes.specs.WordBytesLaws.{words_of-length, words_of_each}
+use Rattle.keys.specs.PlainKeys.{turned_of, limits_of, key_by, lack_by, plain_key, plain_lack, base_of, place_from, clamped, word_from, word_in, Small}
 use Rattle.keys.specs.declared.turned.Turned.{Turned}
 
 -- what each of 8 places from 8 * e on is filled with, where a rule gives it by the pair's number
@@ -36,3 +43,26 @@ more_words t cells e l = more _ _ e l (λ k h. rw h)
 pub word_of_pair : (base : ℕ) (paired : Bool) (along e c : ℕ) → c < 8 → (cells : List ℕ) → word_from base paired along cells (8 * e + c) ≡ get_or cells (clamped (place_from base paired along c) (length cells)) 0
 unfolding word_from
 word_of_pair base paired along e c l cells = let cell : (8 * e + c) % 8 ≡ c = omega arith in rw cell
+
+-- where the cells arrive as bytes
+pub word_of_bytes : (base : ℕ) (paired : Bool) (along e c : ℕ) → c < 8 → (bytes : List ℕ) (at : ℕ) → at ≡ clamped (place_from base paired along c) (length bytes / 4) → at < length bytes / 4
+    → word_from base paired along (words_of bytes) (8 * e + c) ≡ bytes_at bytes (4 * at) 4
+word_of_bytes base paired along e c l bytes at is h = word_of_pair base paired along e c l (words_of bytes) ∙ (rw (words_of-length bytes, ← is) (words_of_each bytes at h))
+
+shift_small : (b : Bool) (m n : ℕ) → m < 32 → n < 32 → cond b m n < 32
+shift_small true m n h k = h
+shift_small false m n h k = k
+
+turned_small : (s : Superblock) (pass : Pass) (chroma : Bool) → Placed s → Small (turned_of s pass chroma)
+unfolding turned_of
+turned_small s Vertical chroma p =
+    record { start = omega arith; from = omega arith; across = omega arith; along = omega arith; log = shift_small s.subx 28 30 (omega arith) (omega arith); tx = shift_small chroma 20 22 (omega arith) (omega arith) }
+turned_small s Horizontal chroma p =
+    record { start = omega arith; from = omega arith; across = omega arith; along = omega arith; log = shift_small s.suby 24 26 (omega arith) (omega arith); tx = shift_small chroma 20 22 (omega arith) (omega arith) }
+
+pub turned_is : (s : Superblock) (pass : Pass) (chroma : Bool) → Placed s → (t : Turned) → t ≡ turned_of s pass chroma → (t ≡ turned_of s pass chroma) × Small t
+turned_is s pass chroma p t e = (e, rw e (turned_small s pass chroma p))
+
+-- there is a cell
+pub some_cells : (s : Superblock) → Placed s → 0 < cells_from s.row s.cols s.rows
+some_cells s p = mul-le-mul {n₁ = 1} {m₁ = 1} {n₂ = rows_from s.row s.rows} {m₂ = s.cols} (omega arith) (omega arith)

@@ -1,8 +1,9 @@
 -- Laws of an entry looked up in a level table.
 -- Assumes nothing.
-use Rattle.std.specs.Prelude.{◌≡◌, not, ◌&&◌, List, ℕ, ◌≤◌, ◌<◌, ltb, ℤ, pos, negsuc, get_or, Some, None, unwrap_or}
+use Rattle.std.specs.Prelude.{◌≡◌, false, not, ◌&&◌, List, ℕ, ◌≤◌, ◌<◌, T, ltb, ℤ, pos, negsuc, get_or, Some, None, unwrap_or}
 use Rattle.std.proofs.Math.Bool.{and-false}
 use Rattle.std.proofs.Common.{⊎_elim, arith, lt-ltb, le-ltb}
+use Rattle.std.specs.Int.Signed.{lt_z, non_neg}
 use Rattle.base.specs.NotationLaws.{split}
 use Rattle.level_lookup.specs.LevelLookup.{level_at, lookup_of}
 
@@ -43,3 +44,11 @@ lookup_small levels segment (pos ref) mode b h =
     (split ref 4))
     (λ (p : 8 ≤ segment). rw (lookup_segment levels segment (pos ref) mode p) (omega arith))
     (split segment 8)
+
+-- an integer that is not below 0 has no sign
+pub not_negative : (v : ℤ) → lt_z v (pos 0) ≡ false → T (non_neg v)
+not_negative (pos n) e = tt
+not_negative (negsuc n) e = let z : ◌≡◌ {A = ℕ} 0 1 = cc in absurd (contra z)
+  where
+    contra : ◌≡◌ {A = ℕ} 0 1 → ⊥
+    contra z = omega arith

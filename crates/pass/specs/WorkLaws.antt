@@ -1,7 +1,7 @@
 -- The pass as its loops do it: run by run, each by one size and one level.
 -- Assumes nothing.
-use Rattle.std.specs.Prelude.{◌≡◌, Bool, false, cond}
-use Rattle.std.proofs.Common.{◌∙◌, add-one, arith, lt-ltb, refl, sym, ap, true, List, [], ◌∷◌, ℕ, zero, suc, ◌+◌, ◌^◌, ◌≤◌, ◌<◌, length}
+use Rattle.std.specs.Prelude.{◌≡◌, Bool, false, cond, ◌++◌}
+use Rattle.std.proofs.Common.{◌∙◌, add-one, arith, lt-ltb, le-ltb, ltb-false, refl, sym, ap, true, List, [], ◌∷◌, ℕ, zero, suc, ◌+◌, ◌^◌, ◌≤◌, ◌<◌, length}
 use mathlib.Core.List.{Memᴰ}
 use Rattle.base.specs.Depth.{supported, depth_scaled}
 use Rattle.decided.specs.Decided.{Position, position, Setting, decision_at, decided, filters}
@@ -18,7 +18,7 @@ use Rattle.geometry.specs.declared.Superblock.{Superblock}
 use Rattle.keys.specs.Keys.{keys_of}
 use Rattle.line.specs.SampleFiltering.{sample_filtering}
 use Rattle.line.specs.SampleFilteringLaws.{filters_within}
-use Rattle.order.specs.Grid.{strip, mem_strip}
+use Rattle.order.specs.Grid.{select, strip, mem_strip}
 use Rattle.order.specs.Order.{run}
 use Rattle.order.specs.Walk.{run_append, run_strip_next, run_idle}
 use Rattle.positions.specs.Positions.{Placed, plane_x, plane_y}
@@ -88,6 +88,10 @@ unfolding run_filtered
 filtered_on g s pass sharpness depth a level x y st ex ey es samples result h =
     h ∙ (λ i. in_turn (run_of g pass (ex i) (ey i) (sample_filtering depth a.size (es i).limit (es i).blimit (es i).thresh)) a.count samples) ∙ (rw (lt-ltb 0 a.level level))
 
+pub filtered_off : (g : WindowShape) (s : Superblock) (pass : Pass) (sharpness depth : ℕ) (a : EdgeRun) (samples : List ℕ) → a.level ≤ 0 → samples ≡ run_filtered g s pass sharpness depth a samples
+unfolding run_filtered
+filtered_off g s pass sharpness depth a samples none = rw (le-ltb 0 a.level none)
+
 -- what holds of both cases of a test
 pub either : {A : Type 0} (P : A → Type 0) (b : Bool) {x y : A} → P x → P y → P (cond b x y)
 either P true p q = p
@@ -105,10 +109,29 @@ module _ (g : WindowShape) (s : Superblock) (pass : Pass) (sharpness depth : ℕ
   unfolding runs_filtered
   runs_next a l samples = refl
 
-  -- a run keeps the length of the list, and samples in range
+  pub runs_one : (a : EdgeRun) (samples : List ℕ) → run_filtered g s pass sharpness depth a samples ≡ runs_filtered (a ∷ []) samples
+  unfolding runs_filtered
+  runs_one a samples = refl
+
+  pub runs_append : (l m : List EdgeRun) (samples : List ℕ) → runs_filtered m (runs_filtered l samples) ≡ runs_filtered (l ++ m) samples
+  unfolding runs_filtered
+  runs_append l m samples = sym (run_append (run_filtered g s pass sharpness depth) l m samples)
+
+  -- those that do not filter may be left out
+  pub runs-select : (l : List EdgeRun) (samples : List ℕ) → runs_filtered l samples ≡ runs_filtered (select run_filters l) samples
+  unfolding runs_filtered
+  runs-select l samples =
+      run_idle (run_filtered g s pass sharpness depth) run_filters l (λ a m e u. sym (filtered_off g s pass sharpness depth a u (ltb-false 0 a.level e))) samples
+
+  -- they keep the length of the list, and samples in range
   run_length : (a : EdgeRun) (samples : List ℕ) → length (run_filtered g s pass sharpness depth a samples) ≡ length samples
   unfolding run_filtered
   run_length a samples = either (λ (l : List ℕ). length l ≡ length samples) (run_filters a) (in_turn-length _ a.count samples) refl
+
+  pub runs-length : (l : List EdgeRun) (samples : List ℕ) → length (runs_filtered l samples) ≡ length samples
+  unfolding runs_filtered
+  runs-length [] samples = refl
+  runs-length (a ∷ l) samples = runs-length l (run_filtered g s pass sharpness depth a samples) ∙ run_length a samples
 
   module _ {lent : ℕ} (w : Lent g lent) (deep : supported depth ≡ true) where
     turn_range : (x y size limit blimit thresh n : ℕ) (samples : List ℕ) → InRange g (2 ^ depth) samples
@@ -121,6 +144,11 @@ module _ (g : WindowShape) (s : Superblock) (pass : Pass) (sharpness depth : ℕ
     run_range : (a : EdgeRun) (samples : List ℕ) → InRange g (2 ^ depth) samples → InRange g (2 ^ depth) (run_filtered g s pass sharpness depth a samples)
     unfolding run_filtered
     run_range a samples r = either (InRange g (2 ^ depth)) (run_filters a) (turn_range _ _ a.size _ _ _ a.count samples r) r
+
+    pub runs_range : (l : List EdgeRun) (samples : List ℕ) → InRange g (2 ^ depth) samples → InRange g (2 ^ depth) (runs_filtered l samples)
+    unfolding runs_filtered
+    runs_range [] samples r = r
+    runs_range (a ∷ l) samples r = runs_range l (run_filtered g s pass sharpness depth a samples) (run_range a samples r)
 
 -- so the work may go on behind a run
 pub after_run : {g : WindowShape} (s : Superblock) (pass : Pass) (sharpness depth : ℕ) (a : EdgeRun) {before after : List ℕ}
