@@ -1,5 +1,4 @@
-// The pass over the first records of an array by value. So a program replays vectors through the record
-// forms and lends no list of records itself.
+// The pass over the first records of an array, for a program that replays vectors through the record forms.
 #![tactic(auto)]
 
 ghost use Rattle.std.specs.Prelude.{◌≤◌, take};

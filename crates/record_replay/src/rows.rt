@@ -1,7 +1,7 @@
-// The row into the first records of an array by value.
-ghost use Rattle.std.specs.Prelude.{◌≡◌, ◌≤◌, take, drop, IfOk};
+// The row into the first records of an array.
+ghost use Rattle.std.specs.Prelude.{◌≡◌, ◌≤◌, take, drop};
 ghost use Rattle.base.specs.Fault.{returned_of};
-ghost use Rattle.base.specs.Outcome.{held, returned};
+ghost use Rattle.base.specs.Outcome.{Answers};
 ghost use Rattle.record_row.specs.RecordRow.{row_records};
 ghost use Rattle.row.specs.RowLists.{lists_of};
 
@@ -10,19 +10,17 @@ use cell_records::CellRecord;
 use record_row::{RowNumbers, row_records};
 use row::mode_info::ModeInfoLists;
 
-// The row into the first records, `lent` of them; the others are left.
+// The row into the first records, `lent` of them; the others are left, and a refusal leaves all.
 pub fn row_front_unchecked(
     lists: ModeInfoLists,
     levels: &[u8; 64],
     numbers: RowNumbers,
-    mut records: [CellRecord; 24],
+    records: &mut [CellRecord; 24],
     lent: usize,
-) -> Result<[CellRecord; 24], Fault>
+) -> Result<(), Fault>
     requires { lent ≤ 24 }
-    ensures answer { returned_of result ≡ returned (row_records (lists_of lists.entry) levels.now numbers (take lent records)) }
-    ensures front { IfOk result (λ made. take lent made ≡ held (row_records (lists_of lists.entry) levels.now numbers (take lent records)) (take lent records)) }
-    ensures behind { IfOk result (λ made. drop lent made ≡ drop lent records) }
+    ensures front { Answers (row_records (lists_of lists.entry) levels.now numbers (take lent records.old)) (returned_of result) (take lent records.old) (take lent records.new) }
+    ensures behind { drop lent records.new ≡ drop lent records.old }
 {
-    row_records(lists, levels, numbers, &mut records[..lent])?;
-    Ok(records)
+    row_records(lists, levels, numbers, &mut records[..lent])
 }

@@ -103,18 +103,18 @@ fn are_records(record: &[u8; 492], records: &[CellRecord; ENTRIES]) -> bool {
         .all(|(made, word)| word_of(*made) == *word / 4096 * 4096)
 }
 
-// As is_equal, with cell records in place of words. A refused row hands none out: those before it stand for them.
+// As is_equal, with cell records in place of words.
 pub(crate) fn is_equal_in_records(record: &[u8; 492]) -> bool {
     let references = references_of(record);
-    let before = words_at(record, 300).map(record_of);
-    let made = row_front_unchecked(
+    let mut records = words_at(record, 300).map(record_of);
+    let answer = row_front_unchecked(
         lists_of(record, &references),
         &levels_of(record),
         numbers_of(record),
-        before,
+        &mut records,
         length_at(record, 16),
     );
     are_lengths(record)
-        & is_answer(made.map(|_| ()), record[17], usize::from(record[18]))
-        & are_records(record, &made.unwrap_or(before))
+        & is_answer(answer, record[17], usize::from(record[18]))
+        & are_records(record, &records)
 }
