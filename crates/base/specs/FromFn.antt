@@ -9,17 +9,22 @@ use Rattle.std.proofs.lemmas.List.FromFn.{fill_by_all}
 use denote.Param.Members.{Mut, Called}
 use Rattle.base.specs.Filled.{filled, filled_at, length-filled}
 
--- a closure that gives t i at the place i, and keeps what it needs for that
-module _ {F B : Type 0} (g : Mut F (ℕ × Unit {0}) B) (t : ℕ → B) (Holds : F → Type 0) (gives : (p q : F) (i : ℕ) (y : B) → Holds p → Called g p (i, tt) y q → (y ≡ t i) × Holds q) where
-  entries : (f : F) (ys : List B) (i n : ℕ) (d : B) → Holds f → IsFromFnResultFrom g f ys i n → (k : ℕ) → k < n → get_or ys (i + k) d ≡ t (i + k)
-  entries f ys i zero d h r k l = absurd (omega arith)
-  entries f ys i (suc n) d h (q, y, at, call, rest) zero l = rw (add-zero i) (at.1 d ∙ (gives f q i y h call).0)
-  entries f ys i (suc n) d h (q, y, at, call, rest) (suc k) l =
+-- a closure that gives at each place i below n an entry of which P i holds, and keeps what it needs for that
+module _ {F B : Type 0} (g : Mut F (ℕ × Unit {0}) B) (P : ℕ → B → Type 0) (Holds : F → Type 0) (n : ℕ) (gives : (p q : F) (i : ℕ) (y : B) → i < n → Holds p → Called g p (i, tt) y q → P i y × Holds q) where
+  entries : (f : F) (ys : List B) (i m : ℕ) (d : B) → i + m ≡ n → Holds f → IsFromFnResultFrom g f ys i m → (k : ℕ) → k < m → P (i + k) (get_or ys (i + k) d)
+  entries f ys i zero d e h r k l = absurd (omega arith)
+  entries f ys i (suc m) d e h (q, y, at, call, rest) zero l = rw (add-zero i, at.1 d) (gives f q i y (omega arith) h call).0
+  entries f ys i (suc m) d e h (q, y, at, call, rest) (suc k) l =
       let on : i + suc k ≡ i + 1 + k = omega arith in
-      rw on (entries q ys (i + 1) n d (gives f q i y h call).1 rest k (omega arith))
+      rw on (entries q ys (i + 1) m d (omega arith) (gives f q i y (omega arith) h call).1 rest k (omega arith))
 
+  pub from_fn_each : (f : F) (ys : List B) (d : B) → Holds f → IsFromFnResult g f ys n → (k : ℕ) → k < n → P k (get_or ys k d)
+  from_fn_each f ys d h r k l = rw (zero-add k) at (entries f ys 0 n d (zero-add n) h r.each k l)
+
+-- one that gives t i
+module _ {F B : Type 0} (g : Mut F (ℕ × Unit {0}) B) (t : ℕ → B) (Holds : F → Type 0) (gives : (p q : F) (i : ℕ) (y : B) → Holds p → Called g p (i, tt) y q → (y ≡ t i) × Holds q) where
   pub from_fn_values : (f : F) (ys : List B) (n : ℕ) (d : B) → Holds f → IsFromFnResult g f ys n → ys ≡ map t (range_with_len 0 n)
-  from_fn_values f ys n d h r = fill_by_all t ys n d r.long (λ k l. rw (zero-add k) at (entries f ys 0 n d h r.each k l))
+  from_fn_values f ys n d h r = fill_by_all t ys n d r.long (λ k l. from_fn_each g (λ i y. y ≡ t i) Holds n (λ p q i y b. gives p q i y) f ys d h r k l)
 
 module _ {F : Type 0} (g : Mut F (ℕ × Unit {0}) ℕ) (t : ℕ → ℕ) (Holds : F → Type 0) (gives : (p q : F) (i y : ℕ) → Holds p → Called g p (i, tt) y q → (y ≡ t i) × Holds q) where
   pub from_fn_filled : (f : F) (ys : List ℕ) (n : ℕ) → Holds f → IsFromFnResult g f ys n → ys ≡ filled t 0 n (replicate n 0)
@@ -32,5 +37,5 @@ module _ {F : Type 0} (g : Mut F (ℕ × Unit {0}) ℕ) (t : ℕ → ℕ) (Holds
       same : (k : ℕ) → k < length ys → get_or ys k 0 ≡ get_or (filled t 0 n (replicate n 0)) k 0
       same k l =
           let below : k < n = omega (arith, r.long) in
-          (rw (zero-add k) at (entries g t Holds gives f ys 0 n 0 h r.each k below))
+          from_fn_each g (λ i y. y ≡ t i) Holds n (λ p q i y b. gives p q i y) f ys 0 h r k below
           ∙ sym (rw (zero-add k) at (filled_at t 0 n (replicate n 0) k below (omega (arith, long))))

@@ -15,6 +15,7 @@ pub mod sample;
 use base::depth::Depth;
 use line::sample_filtering_unchecked;
 use sample::Sample;
+use std::array;
 use strength::FilterStrength;
 use tap_places::position::Position;
 use window::WindowShape;
@@ -26,17 +27,11 @@ fn read_tap<S: Sample>(samples: &[S], g: WindowShape, p: Position, k: usize) -> 
     samples[p.read_place_unchecked(g, k)].word()
 }
 
-// By array::from_fn the closure has clauses of its own, and the proof does not close: its law tells what each entry equals, and not
-// that it fits the width.
 fn load<S: Sample>(samples: &[S], g: WindowShape, p: Position) -> [u16; 16]
     requires { Lent g (length samples.now) }
     ensures { (result ≡ gather (tap_read g p.pass p.x p.y) 0 16 (map S.value samples.now)) × HoldsLine S.width result }
 {
-    let mut t = [0u16; 16];
-    for k in 0..16 {
-        t[k] = read_tap(samples, g, p, k);
-    }
-    t
+    array::from_fn(move |k| read_tap(samples, g, p, k))
 }
 
 fn write_tap<S: Sample>(samples: &mut [S], g: WindowShape, p: Position, k: usize, word: u16)

@@ -1,34 +1,15 @@
 -- Laws of lanes of bytes: the lanes of each arm in turn are all lanes by their keys.
 -- Assumes nothing.
-use Rattle.std.specs.Prelude.{◌≡◌, refl, Bool, true, false, ◌||◌, List, ◌⊎◌, ℕ, zero, suc, ◌+◌, ◌≤◌, ◌<◌, T, eqb, leb, length, get_or, set}
-use Rattle.std.proofs.Common.{sym, ap, ◌∙◌, subst, ⊎_elim, arith, get_or-set_same, get_or-set_other}
+use Rattle.std.specs.Prelude.{◌≡◌, refl, Bool, true, false, ◌||◌, List, ◌⊎◌, ℕ, zero, suc, ◌≤◌, ◌<◌, T, eqb, leb, length, get_or}
+use Rattle.std.proofs.Common.{sym, ap, ◌∙◌, subst, arith}
 use Rattle.base.specs.First.{found, found_none, found-false}
-use Rattle.base.specs.NotationLaws.{split}
 use Rattle.base.specs.Tests.{neither}
-use Rattle.byte_filters.specs.ByteArm.{arm_of, armed}
+use Rattle.byte_filters.specs.ByteArm.{armed}
 use Rattle.byte_filters.specs.ByteArmLaws.{arm_small, arm_line, arm_inner, arm_large}
 use Rattle.lanes.specs.KeyLine.{key_line}
 use Rattle.lanes.specs.Lanes.{lane_of, EachLane}
 use Rattle.wide_filter.specs.Taps.{tap}
 use Rattle.byte_lanes.specs.ByteLanes.{Keys, ArmsTo, has_arm, arm_lane, narrow_lane, wide_lane, Stage, Filtered}
-
--- ---- the arms
-
-module _ {sharpness : ℕ} {keys t : List ℕ} where
-  pub arms_none : (arms : List ℕ) → ArmsTo 0 sharpness keys t arms
-  arms_none arms = record { each = λ l b. absurd (omega arith) }
-
-  pub arms_more : {m arm : ℕ} {arms line : List ℕ} → m < length arms → line ≡ lane_of t m → arm ≡ arm_of sharpness (get_or keys m 0) line → ArmsTo m sharpness keys t arms → ArmsTo (m + 1) sharpness keys t (set arms m arm)
-  arms_more {m} {arm} {arms} {line} h is e inv = record { each = each }
-    where
-      last : get_or (set arms m arm) m 0 ≡ arm_of sharpness (get_or keys m 0) (lane_of t m)
-      last = get_or-set_same arms m arm 0 h ∙ e ∙ ap (arm_of sharpness (get_or keys m 0)) is
-
-      each : (l : ℕ) → l < m + 1 → get_or (set arms m arm) l 0 ≡ arm_of sharpness (get_or keys l 0) (lane_of t l)
-      each l b =
-          ⊎_elim (λ (x : l < m). get_or-set_other arms m l arm 0 (λ y. omega arith) ∙ inv.each l x)
-          (λ (x : m ≤ l). let y : l ≡ m = omega arith in rw y last)
-          (split l m)
 
 -- ---- the lanes of one arm
 

@@ -1,9 +1,9 @@
 // The line filter on 16 lanes of bytes at once, each with a key of its own. Loops have no branch, so that they vectorise.
 #![tactic(auto)]
 
-ghost use Rattle.std.specs.Prelude.{◌≡◌, ◌≤◌, ◌<◌, length, map};
-ghost use Rattle.byte_filters.specs.ByteArm.{number_of};
-ghost use Rattle.lanes.specs.Lanes.{EachLane};
+ghost use Rattle.std.specs.Prelude.{◌≡◌, ◌≤◌, ◌<◌, length, get_or, map};
+ghost use Rattle.byte_filters.specs.ByteArm.{number_of, arm_of};
+ghost use Rattle.lanes.specs.Lanes.{lane_of, EachLane};
 ghost use Rattle.byte_lanes.specs.ByteLanes.{ArmsTo, has_arm, arm_lane, narrow_lane, wide_lane, Filtered};
 
 pub mod lane_keys;
@@ -13,6 +13,7 @@ use byte_filters::{Arm, byte_four, byte_fourteen, byte_six, lane_arm_unchecked};
 use lane::Lane;
 use lane_keys::LaneKeys;
 use lanes::table::{each_lane_unchecked, lane_at_unchecked};
+use std::array;
 
 // What filtering changed: some lane, and some tap outside p3 to q3.
 #[derive(Clone, Copy)]
@@ -21,16 +22,18 @@ pub struct Changed {
     pub outer: bool,
 }
 
-// The filter of each lane by its key.
+// The filter of a lane by its key.
+fn arm_at(t: &[u8; 256], keys: &LaneKeys, sharpness: Sharpness, l: usize) -> Arm
+    requires { l < 16 }
+    ensures { number_of result ≡ arm_of sharpness.level (get_or keys.now.of l 0) (lane_of t.now l) }
+{
+    lane_arm_unchecked(lane_at_unchecked(t, l), keys.of[l], sharpness)
+}
+
 fn lane_arms(t: &[u8; 256], keys: &LaneKeys, sharpness: Sharpness) -> [Arm; 16]
     ensures { ArmsTo 16 sharpness.level keys.now.of t.now (map number_of result) }
 {
-    // A loop: of array::from_fn the proof that each call sees the same table did not close.
-    let mut arms = [Arm::None; 16];
-    for l in 0..16 {
-        arms[l] = lane_arm_unchecked(lane_at_unchecked(t, l), keys.of[l], sharpness);
-    }
-    arms
+    array::from_fn(move |l| arm_at(t, keys, sharpness, l))
 }
 
 // Whether a lane gets the filter arm. All are looked at, since a loop that could end early would not vectorise.

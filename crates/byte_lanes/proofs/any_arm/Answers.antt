@@ -2,7 +2,7 @@ use Rattle.std.proofs.Common.{◌≡◌, refl, sym, ◌∙◌, ap, ℕ, arith, m
 use Rattle.std.specs.Prelude.{eqb}
 use Rattle.std.proofs.lemmas.List.{get_or-map}
 use denote.Enum.Bare.{sameb}
-use Rattle.base.specs.First.{found, found-start, found_more}
+use Rattle.base.specs.First.{found-start, found_more}
 use Rattle.byte_filters.specs.ByteArm.{number_of}
 use Rattle.byte_filters.specs.contracts.Arm.{the_type}
 use Rattle.byte_filters.specs.declared.Arm.{Arm}

@@ -1,24 +1,16 @@
-use Rattle.std.proofs.Common.{◌≡◌, refl, ◌∙◌, arith, map, length, length-set}
-use Rattle.std.proofs.lemmas.List.{length-map, map-set}
-use Rattle.byte_filters.specs.ByteArm.{number_of}
-use Rattle.byte_lanes.specs.ByteLanesLaws.{arms_none, arms_more}
-use Rattle.lanes.specs.LanesLaws.{lane_found, lane_samples}
+use Rattle.std.proofs.Common.{◌≡◌, refl, ◌∙◌, arith, rules, of_calls, get_or}
+use Rattle.std.proofs.lemmas.List.{get_or-map}
+use Rattle.base.specs.FromFn.{from_fn_each}
+use Rattle.byte_filters.specs.ByteArm.{number_of, arm_of}
+use Rattle.byte_filters.specs.declared.Arm.{Arm}
+use Rattle.byte_filters.specs.declared.Arm.TheVariants.{None}
+use Rattle.lanes.specs.Lanes.{lane_of}
 use Rattle.byte_lanes.proofs.lane_arms.Goals as goal
 
-pub loop-l-init : goal.loop-l-init
-loop-l-init c = (c.told-t, refl, arms_none _)
-
-pub lane_arm_unchecked-requires : goal.lane_arm_unchecked-requires
-lane_arm_unchecked-requires c = c.args.keys.now.keyed.small c.loop-l.l (omega arith)
-
-pub loop-l-preserved : goal.loop-l-preserved
-loop-l-preserved c =
-    let (table, long, to) = c.loop-l.invariant in
-    let arms = c.loop-l.arms in
-    let l = c.loop-l.l in
-    let arm = c.lane_arm_unchecked.result in
-    let is = lane_found c.args.t.now l table (omega arith) c.lane_at_unchecked.ensures in
-    (table, length-set arms l arm ∙ long, rw (map-set number_of arms l arm) (arms_more (rw length-map (omega arith)) (lane_samples c.args.t.now l is) c.lane_arm_unchecked.ensures to))
-
 pub returns : goal.returns
-returns c = let all : c.loop-l.l ≡ 16 = omega arith in rw all at c.loop-l.invariant.2
+returns c =
+    let a = c.args in
+    let arms = c.from_fn.result in
+    let items = c.from_fn.ensures.items in
+    let each = from_fn_each _ (λ l (y : Arm). number_of y ≡ arm_of a.sharpness.level (get_or a.keys.now.of l 0) (lane_of a.t.now l)) (λ f. (f.0.now ≡ a.t.now) × (f.1.now ≡ a.keys.now) × (f.2 ≡ a.sharpness)) 16 (λ f f' l y below h call. (rw (← h.0, ← h.1, ← h.2) (search (rules, of_calls)), search rules)) _ arms None (refl, refl, refl) items in
+    record { each = λ l below. get_or-map number_of arms l None 0 (omega (arith, items.long)) ∙ each l below }
