@@ -3,5 +3,7 @@
 
 pub mod depth;
 pub mod fault;
+pub mod key;
+pub mod level;
 pub mod search;
 pub mod sharpness;

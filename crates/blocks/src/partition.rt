@@ -1,6 +1,8 @@
-// The shapes of the block sizes, from the Rust's partition.rs. A function named .._unchecked takes a size that was tested.
-ghost use Rattle.std.specs.Prelude.{◌≡◌, ◌≤◌};
+// The shapes of the block sizes, from the Rust's partition.rs.
+ghost use Rattle.std.specs.Prelude.{◌≡◌};
 ghost use Rattle.blocks.specs.BlockSizes.{by_size, mi_width_log2, mi_height_log2, num8x8_wide, num8x8_high};
+
+use crate::block_size::BlockSize;
 
 const MI_WIDTH_LOG2_LOOKUP: [u8; 13] = [0, 0, 0, 0, 0, 1, 1, 1, 2, 2, 2, 3, 3];
 
@@ -27,17 +29,15 @@ pub fn mi_height_log2_table() -> [u8; 13]
 }
 
 #[tactic(auto, unfolding(crate::specs::BlockSizes::num8x8_wide, crate::specs::BlockSizes::mi_width_log2))]
-pub fn num_8x8_wide_unchecked(size: u8) -> u8
-    requires { size ≤ 12 }
-    ensures { result ≡ num8x8_wide size }
+pub fn num_8x8_wide(size: BlockSize) -> u8
+    ensures { result ≡ num8x8_wide size.number }
 {
-    NUM_8X8_BLOCKS_WIDE_LOOKUP[usize::from(size)]
+    NUM_8X8_BLOCKS_WIDE_LOOKUP[usize::from(size.number)]
 }
 
 #[tactic(auto, unfolding(crate::specs::BlockSizes::num8x8_high, crate::specs::BlockSizes::mi_height_log2))]
-pub fn num_8x8_high_unchecked(size: u8) -> u8
-    requires { size ≤ 12 }
-    ensures { result ≡ num8x8_high size }
+pub fn num_8x8_high(size: BlockSize) -> u8
+    ensures { result ≡ num8x8_high size.number }
 {
-    NUM_8X8_BLOCKS_HIGH_LOOKUP[usize::from(size)]
+    NUM_8X8_BLOCKS_HIGH_LOOKUP[usize::from(size.number)]
 }

@@ -12,11 +12,10 @@ ghost use Rattle.border_position.specs.Holds.{Holds, HoldsLine};
 
 pub mod sample;
 
-use base::depth::Depth;
+use line::line_strength::LineStrength;
 use line::sample_filtering_unchecked;
 use sample::Sample;
 use std::array;
-use strength::FilterStrength;
 use tap_places::position::Position;
 use window::WindowShape;
 
@@ -57,21 +56,13 @@ pub fn filter_position_unchecked<S: Sample>(
     samples: &mut [S],
     g: WindowShape,
     p: Position,
-    depth: Depth,
     size: u8,
-    strength: FilterStrength,
+    f: LineStrength,
 )
-    requires { Lent g (length samples.old) × (admits S.width depth.bits ≡ true) }
-    ensures { map S.value samples.new ≡ applied (stencil g p.pass p.x p.y true (sample_filtering depth.bits size strength.limit strength.blimit strength.thresh)) (map S.value samples.old) }
+    requires { Lent g (length samples.old) × (admits S.width f.depth.bits ≡ true) }
+    ensures { map S.value samples.new ≡ applied (stencil g p.pass p.x p.y true (sample_filtering f.depth.bits size f.limit f.blimit f.thresh)) (map S.value samples.old) }
 {
     let mut t = load(samples, g, p);
-    sample_filtering_unchecked(
-        &mut t,
-        depth,
-        size,
-        strength.limit,
-        strength.blimit,
-        strength.thresh,
-    );
+    sample_filtering_unchecked(&mut t, size, f);
     store(samples, g, p, &t);
 }

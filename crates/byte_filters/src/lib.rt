@@ -12,6 +12,7 @@ mod limits;
 mod narrow;
 mod wide;
 
+use base::key::Key;
 use base::sharpness::Sharpness;
 use lane::{Four, Lane, Six};
 use limits::{blimit_of, limit_of};
@@ -29,15 +30,14 @@ pub enum Arm {
 }
 
 // The arm of a lane by its key, which is 64 times the filter size and the level: the size is no enum, since 8.8.2 computes with it.
-pub fn lane_arm_unchecked(a: Lane<u8>, key: u8, sharpness: Sharpness) -> Arm
-    requires { key < 192 }
-    ensures { number_of result ≡ arm_of sharpness.level key (samples_of a) }
+pub fn lane_arm(a: Lane<u8>, key: Key, sharpness: Sharpness) -> Arm
+    ensures { number_of result ≡ arm_of sharpness.level key.number (samples_of a) }
 {
-    let level = key % 64;
+    let level = key.level();
     let limit = limit_of(level, sharpness);
-    let on = (0 < level) & filter_mask_unchecked(a, limit, blimit_of(level, limit));
-    let flat = (64 <= key) & flat_mask(a, 1);
-    let flat2 = (128 <= key) & flat_mask2(a, 1);
+    let on = (0 < level.number) & filter_mask_unchecked(a, limit, blimit_of(level, limit));
+    let flat = (64 <= key.number) & flat_mask(a, 1);
+    let flat2 = (128 <= key.number) & flat_mask2(a, 1);
     let wide = if flat2 { Arm::Fourteen } else { Arm::Six };
     let some = if flat { wide } else { Arm::Narrow };
     if on { some } else { Arm::None }

@@ -4,6 +4,7 @@ ghost use Rattle.std.specs.Prelude.{◌≡◌, ◌+◌, ◌*◌, ◌≤◌, ◌<
 ghost use Rattle.strength.specs.Strength.{shift, limit_of};
 ghost use Rattle.byte_filters.specs.TopLimit.{top_limit};
 
+use base::level::Level;
 use base::sharpness::Sharpness;
 
 fn shift_of(sharpness: Sharpness) -> u8
@@ -26,16 +27,17 @@ fn top_of(sharpness: Sharpness) -> u8
     }
 }
 
-pub(crate) fn limit_of(level: u8, sharpness: Sharpness) -> u8
-    requires { level ≤ 63 }
-    ensures { (result ≡ limit_of level sharpness.level) × (result ≤ 63) }
+pub(crate) fn limit_of(level: Level, sharpness: Sharpness) -> u8
+    ensures { (result ≡ limit_of level.number sharpness.level) × (result ≤ 63) }
 {
-    (level >> shift_of(sharpness)).min(top_of(sharpness)).max(1)
+    (level.number >> shift_of(sharpness))
+        .min(top_of(sharpness))
+        .max(1)
 }
 
-pub(crate) fn blimit_of(level: u8, limit: u8) -> u8
-    requires { (level ≤ 63) × (limit ≤ 63) }
-    ensures { (result ≡ 2 * (level + 2) + limit) × (result < 255) }
+pub(crate) fn blimit_of(level: Level, limit: u8) -> u8
+    requires { limit ≤ 63 }
+    ensures { (result ≡ 2 * (level.number + 2) + limit) × (result < 255) }
 {
-    2 * (level + 2) + limit
+    2 * (level.number + 2) + limit
 }

@@ -8,8 +8,9 @@ ghost use Rattle.byte_lanes.specs.ByteLanes.{ArmsTo, has_arm, arm_lane, narrow_l
 
 pub mod lane_keys;
 
+use base::key::Key;
 use base::sharpness::Sharpness;
-use byte_filters::{Arm, byte_four, byte_fourteen, byte_six, lane_arm_unchecked};
+use byte_filters::{Arm, byte_four, byte_fourteen, byte_six, lane_arm};
 use lane::Lane;
 use lane_keys::LaneKeys;
 use lanes::table::{each_lane_unchecked, lane_at_unchecked};
@@ -27,7 +28,11 @@ fn arm_at(t: &[u8; 256], keys: &LaneKeys, sharpness: Sharpness, l: usize) -> Arm
     requires { l < 16 }
     ensures { number_of result ≡ arm_of sharpness.level (get_or keys.now.of l 0) (lane_of t.now l) }
 {
-    lane_arm_unchecked(lane_at_unchecked(t, l), keys.of[l], sharpness)
+    lane_arm(
+        lane_at_unchecked(t, l),
+        Key { number: keys.of[l] },
+        sharpness,
+    )
 }
 
 fn lane_arms(t: &[u8; 256], keys: &LaneKeys, sharpness: Sharpness) -> [Arm; 16]

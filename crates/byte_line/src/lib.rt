@@ -11,6 +11,7 @@ ghost use Rattle.wide_filter.specs.Taps.{Within};
 
 use base::depth::Depth;
 use base::fault::Fault;
+use line::line_strength::LineStrength;
 use line::sample_filtering_unchecked;
 use std::array;
 
@@ -37,7 +38,13 @@ pub fn sample_filtering_bytes_unchecked(t: &mut [u8], size: u8, limit: u8, blimi
     ensures { t.new ≡ sample_filtering 8 size limit blimit thresh t.old }
 {
     let mut wide = widened(t);
-    sample_filtering_unchecked(&mut wide, Depth { bits: 8 }, size, limit, blimit, thresh);
+    let f = LineStrength {
+        depth: Depth { bits: 8 },
+        limit,
+        blimit,
+        thresh,
+    };
+    sample_filtering_unchecked(&mut wide, size, f);
     store_narrowed(t, &wide);
 }
 

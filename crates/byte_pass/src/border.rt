@@ -6,21 +6,24 @@ ghost use Rattle.window.specs.WindowLaws.{Lent};
 
 use crate::work::ByteWork;
 use base::depth::Depth;
+use base::key::Key;
 use border_position::filter_position_unchecked;
 use byte_lanes::lane_keys::LaneKeys;
+use line::line_strength::LineStrength;
 use tap_places::position::Position;
 use tap_places::run_start::RunStart;
 
 // Level 0 filters nothing.
 #[tactic(auto, unfolding(base::specs::Depth::supported))]
-fn filter_keyed(samples: &mut [u8], w: &ByteWork, p: Position, key: u8)
-    requires { Lent w.now.g (length samples.old) × (key < 192) }
-    ensures { samples.new ≡ applied (key_stencil w.now.g p.pass p.x p.y w.now.sharpness.level 8 key) samples.old }
+fn filter_keyed(samples: &mut [u8], w: &ByteWork, p: Position, key: Key)
+    requires { Lent w.now.g (length samples.old) }
+    ensures { samples.new ≡ applied (key_stencil w.now.g p.pass p.x p.y w.now.sharpness.level 8 key.number) samples.old }
 {
-    let level = key % 64;
-    if 0 < level {
-        let strength = w.limits.strength_unchecked(level, w.sharpness);
-        filter_position_unchecked(samples, w.g, p, Depth { bits: 8 }, key / 64, strength);
+    let level = key.level();
+    if 0 < level.number {
+        let strength = w.limits.strength(level, w.sharpness);
+        let f = LineStrength::new(Depth { bits: 8 }, strength);
+        filter_position_unchecked(samples, w.g, p, key.size(), f);
     }
 }
 
@@ -37,6 +40,6 @@ pub(crate) fn filter_border(
 {
     for (j, key) in keys.of[first..].iter().enumerate() {
         let p = start.position_unchecked(first + j);
-        filter_keyed(samples, w, p, *key);
+        filter_keyed(samples, w, p, Key { number: *key });
     }
 }

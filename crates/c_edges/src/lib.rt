@@ -9,6 +9,7 @@ ghost use Rattle.edges.specs.Edge.{superblock_filter_edge};
 ghost use Rattle.c_edges.specs.EdgeEntry.{entry_of, mi_of};
 
 use base::fault::Fault;
+use edges::numbers::EdgeNumbers;
 use edges::{SuperblockFilterEdge, SuperblockFilterMi};
 use geometry::Luma;
 
@@ -109,9 +110,18 @@ pub fn springspade_edge(
         skip,
         ref_frame,
     };
-    match edges::superblock_filter_edge(
-        pass, mi_row, mi_col, edge, i, sub_x, sub_y, mi_cols, mi_rows, mi,
-    ) {
+    let n = EdgeNumbers {
+        sub_x,
+        sub_y,
+        mi_cols,
+        mi_rows,
+        mi_row,
+        mi_col,
+        pass,
+        edge,
+        i,
+    };
+    match edges::superblock_filter_edge(n, mi) {
         Ok(facts) => accepted(facts),
         Err(fault) => refused(fault),
     }

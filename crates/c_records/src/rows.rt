@@ -6,8 +6,9 @@ ghost use Rattle.row.specs.Row.{mode_info};
 
 use c_border::{Refusal, refusal_of};
 use cell_records::CellRecord;
-use record_row::{RowNumbers, row_records};
+use record_row::row_records;
 use row::mode_info::ModeInfoLists;
+use row::numbers::RowNumbers;
 
 // As springspade_row, into cell records in place of words, with the numbers in a record.
 // Plain parameters, since C calls it.

@@ -11,6 +11,7 @@ ghost use Rattle.c_border.specs.Border.{numbers_of};
 use c_border::{Refusal, refusal_of};
 use cells::LfCell;
 use row::mode_info::ModeInfoLists;
+use row::numbers::RowNumbers;
 use row::row_cells;
 
 // Packs the cells of the superblock row at mi_row into the front of cells; words behind them are left. The lists come one by one, and each kind
@@ -43,9 +44,16 @@ pub fn springspade_row(
         y_modes,
         segment_ids,
     };
-    refusal_of(row_cells(
-        lists, levels, sharpness, bit_depth, sub_x, sub_y, mi_cols, mi_rows, mi_row, cells,
-    ))
+    let n = RowNumbers {
+        sharpness,
+        bit_depth,
+        sub_x,
+        sub_y,
+        mi_cols,
+        mi_rows,
+        mi_row,
+    };
+    refusal_of(row_cells(lists, levels, n, cells))
 }
 
 // The fields of a cell's word.

@@ -5,6 +5,7 @@ ghost use Rattle.std.specs.Prelude.{◌≡◌, ◌≤◌};
 ghost use Rattle.blocks.specs.BlockSizes.{by_size};
 ghost use Rattle.chroma_transforms.specs.ChromaTransforms.{max_tx_size, ss_size, uv_limit};
 
+use blocks::block_size::BlockSize;
 use std::array;
 
 const BLOCK_8X8: u8 = 3;
@@ -25,19 +26,17 @@ const SS_SIZE_LOOKUP_1_0: [u8; 13] = [14, 14, 0, 1, 14, 3, 4, 14, 6, 7, 14, 9, 1
 const SS_SIZE_LOOKUP_1_1: [u8; 13] = [14, 14, 14, 0, 1, 2, 3, 4, 5, 6, 7, 8, 9];
 
 #[tactic(auto, unfolding(crate::specs::ChromaTransforms::max_tx_size))]
-fn max_tx_size_unchecked(size: u8) -> u8
-    requires { size ≤ 12 }
-    ensures { result ≡ max_tx_size size }
+fn max_tx_size(size: BlockSize) -> u8
+    ensures { result ≡ max_tx_size size.number }
 {
-    MAX_TXSIZE_LOOKUP[usize::from(size)]
+    MAX_TXSIZE_LOOKUP[usize::from(size.number)]
 }
 
 #[tactic(auto, unfolding(crate::specs::ChromaTransforms::ss_size, base::specs::First::found, base::specs::First::first_from))]
-fn ss_size_unchecked(size: u8, subx: bool, suby: bool) -> u8
-    requires { size ≤ 12 }
-    ensures { result ≡ ss_size size subx suby }
+fn ss_size(size: BlockSize, subx: bool, suby: bool) -> u8
+    ensures { result ≡ ss_size size.number subx suby }
 {
-    let at = usize::from(size);
+    let at = usize::from(size.number);
     match (subx, suby) {
         (false, false) => SS_SIZE_LOOKUP_0_0[at],
         (false, true) => SS_SIZE_LOOKUP_0_1[at],
@@ -47,23 +46,22 @@ fn ss_size_unchecked(size: u8, subx: bool, suby: bool) -> u8
 }
 
 #[tactic(auto, unfolding(crate::specs::ChromaTransforms::uv_limit), using(crate::specs::ChromaTransformsLaws::ss_size_lem))]
-fn uv_limit_unchecked(subx: bool, suby: bool, mi_size: u8) -> u8
-    requires { mi_size ≤ 12 }
-    ensures { result ≡ uv_limit subx suby mi_size }
+fn uv_limit(subx: bool, suby: bool, mi_size: BlockSize) -> u8
+    ensures { result ≡ uv_limit subx suby mi_size.number }
 {
-    if mi_size < BLOCK_8X8 {
+    if mi_size.number < BLOCK_8X8 {
         return 0;
     }
-    let plane_size = ss_size_unchecked(mi_size, subx, suby);
+    let plane_size = ss_size(mi_size, subx, suby);
     if plane_size == BLOCK_INVALID {
         return 0;
     }
-    max_tx_size_unchecked(plane_size)
+    max_tx_size(BlockSize { number: plane_size })
 }
 
 // The largest transform of each block size in planes 1 and 2.
 pub fn uv_limit_table(subx: bool, suby: bool) -> [u8; 13]
     ensures { result ≡ by_size (uv_limit subx suby) }
 {
-    array::from_fn(move |size| uv_limit_unchecked(subx, suby, size as u8))
+    array::from_fn(move |size| uv_limit(subx, suby, BlockSize { number: size as u8 }))
 }

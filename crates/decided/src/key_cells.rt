@@ -54,7 +54,7 @@ impl<'a> Iterator for KeyCells<'a> {
             let c = self.at % 8;
             let key = self.keys.key_at_unchecked(edge, c);
             self.at += 1;
-            if key % 64 != 0 {
+            if key.level().number != 0 {
                 return Some(key_run_unchecked(self.s, self.pass, key, edge, c));
             }
         }

@@ -6,6 +6,7 @@ ghost use Rattle.decided.specs.RunsLaws.{Small};
 ghost use Rattle.pass_edges.specs.PassEdges.{edge_count};
 
 use crate::EdgeRun;
+use base::key::Key;
 use geometry::{Pass, Superblock};
 use pass_edges::along;
 
@@ -31,17 +32,17 @@ pub fn no_run() -> SmallRun
 }
 
 // The positions of one cell along an edge, as a run by themselves.
-pub fn key_run_unchecked(s: Superblock, pass: Pass, key: u8, edge: usize, c: usize) -> SmallRun
-    requires { (key < 192) × (edge < edge_count s pass) × (c < 8) }
-    ensures { result.of ≡ key_run s pass key edge c }
+pub fn key_run_unchecked(s: Superblock, pass: Pass, key: Key, edge: usize, c: usize) -> SmallRun
+    requires { (edge < edge_count s pass) × (c < 8) }
+    ensures { result.of ≡ key_run s pass key.number edge c }
 {
     SmallRun {
         of: EdgeRun {
             edge,
             first: along(s, pass, 8 * c),
             count: along(s, pass, 8),
-            size: key / 64,
-            level: key % 64,
+            size: key.size(),
+            level: key.level().number,
         },
     }
 }

@@ -4,6 +4,7 @@ use anyhow::Result;
 use base::fault::Fault;
 use cells::LfCell;
 use row::mode_info::ModeInfoLists;
+use row::numbers::RowNumbers;
 use row::row_cells;
 
 // Both blocks have 8 by 8 samples, and the frame has no other cells.
@@ -30,9 +31,16 @@ pub(crate) fn made_row() -> Result<[u32; 2], Fault> {
         y_modes: &[0; 2],
         segment_ids: &[0; 2],
     };
-    row_cells(
-        lists, &[32; 64], 0, 8, 0, 0, MI_COLS, MI_ROWS, 0, &mut cells,
-    )?;
+    let n = RowNumbers {
+        sharpness: 0,
+        bit_depth: 8,
+        sub_x: 0,
+        sub_y: 0,
+        mi_cols: MI_COLS,
+        mi_rows: MI_ROWS,
+        mi_row: 0,
+    };
+    row_cells(lists, &[32; 64], n, &mut cells)?;
     Ok(cells)
 }
 

@@ -2,6 +2,7 @@
 use crate::case_s::{INTRA, MI_COLS, MI_ROWS, MI_SIZE, SKIP, TX_SIZE};
 use crate::output::yes_or_no;
 use anyhow::Result;
+use edges::numbers::EdgeNumbers;
 use edges::{SuperblockFilterMi, superblock_filter_edge};
 
 // The first position of a vertical edge of plane 0.
@@ -12,7 +13,18 @@ fn print_edge(rt: &impl Print, edge: usize) -> Result<()> {
         skip: SKIP,
         ref_frame: INTRA,
     };
-    let found = superblock_filter_edge(0, 0, 0, edge, 0, 0, 0, MI_COLS, MI_ROWS, mi)?;
+    let n = EdgeNumbers {
+        sub_x: 0,
+        sub_y: 0,
+        mi_cols: MI_COLS,
+        mi_rows: MI_ROWS,
+        mi_row: 0,
+        mi_col: 0,
+        pass: 0,
+        edge,
+        i: 0,
+    };
+    let found = superblock_filter_edge(n, mi)?;
     println!(rt;
         "edge {edge}: x {}, block edge {}, transform edge {}, filtered {}, size {}",
         found.x.0,

@@ -6,14 +6,18 @@ ghost use Rattle.base.specs.Fault.{outcome_of};
 ghost use Rattle.blocks.specs.ModeInfoLaws.{Block};
 ghost use Rattle.edges.specs.Edge.{block_edge, edge_facts, superblock_filter_edge};
 
+pub mod numbers;
+
 use base::fault::Fault;
+use blocks::block_size::BlockSize;
 use blocks::mode_info::{bad_block, is_intra, sb_size};
-use blocks::partition::{num_8x8_high_unchecked, num_8x8_wide_unchecked};
+use blocks::partition::{num_8x8_high, num_8x8_wide};
 use edge_steps::filter_size::filter_size;
 use edge_steps::superblock_filter::{
     apply_filter, is_32_edge, is_tx_edge_unchecked, loop_cell_unchecked, on_screen,
 };
 use geometry::{Luma, Pass, Superblock, bad_frame_size, bad_start, bad_subsampling};
+use numbers::EdgeNumbers;
 use pass_edges::{edge_count, edge_len, pass_of};
 use positions::{EdgePosition, PlacedSuperblock};
 
@@ -48,11 +52,15 @@ fn is_block_edge(s: Superblock, pass: Pass, x: Luma, y: Luma, mi_size: u8) -> bo
 {
     match pass {
         Pass::Vertical => {
-            let wide = usize::from(num_8x8_wide_unchecked(sb_size(s.subx, mi_size)));
+            let wide = usize::from(num_8x8_wide(BlockSize {
+                number: sb_size(s.subx, mi_size),
+            }));
             x.0 % (8 * wide) == 0
         }
         Pass::Horizontal => {
-            let high = usize::from(num_8x8_high_unchecked(sb_size(s.suby, mi_size)));
+            let high = usize::from(num_8x8_high(BlockSize {
+                number: sb_size(s.suby, mi_size),
+            }));
             y.0 % (8 * high) == 0
         }
     }
@@ -93,54 +101,46 @@ pub fn superblock_filter_edge_unchecked(
 // Takes any numbers. The subsampling and the transform are those that hold in the plane.
 #[tactic(auto, unfolding(crate::specs::Edge::superblock_filter_edge, crate::specs::Edge::off_grid), using(blocks::specs::ModeInfoLaws::block, positions::specs::PositionsLaws::placed))]
 pub fn superblock_filter_edge(
-    pass: u8,
-    row: usize,
-    col: usize,
-    edge: usize,
-    i: usize,
-    sub_x: u8,
-    sub_y: u8,
-    mi_cols: usize,
-    mi_rows: usize,
+    n: EdgeNumbers,
     mi: SuperblockFilterMi,
 ) -> Result<SuperblockFilterEdge, Fault>
-    ensures { outcome_of result ≡ superblock_filter_edge pass row col edge i sub_x sub_y mi_cols mi_rows mi }
+    ensures { outcome_of result ≡ superblock_filter_edge n.pass n.mi_row n.mi_col n.edge n.i n.sub_x n.sub_y n.mi_cols n.mi_rows mi }
 {
-    if bad_subsampling(sub_x, sub_y) {
+    if bad_subsampling(n.sub_x, n.sub_y) {
         return Err(Fault::Subsampling);
     }
-    if bad_frame_size(mi_cols, mi_rows) {
+    if bad_frame_size(n.mi_cols, n.mi_rows) {
         return Err(Fault::FrameSize);
     }
-    if bad_start(row, mi_rows) {
+    if bad_start(n.mi_row, n.mi_rows) {
         return Err(Fault::Row);
     }
     if bad_block(mi.mi_size, mi.tx_sz, mi.skip) {
         return Err(Fault::Block(0));
     }
-    if 1 < pass {
+    if 1 < n.pass {
         return Err(Fault::PlaneOrPass);
     }
-    if bad_start(col, mi_cols) {
+    if bad_start(n.mi_col, n.mi_cols) {
         return Err(Fault::Column);
     }
     let s = Superblock {
-        subx: sub_x == 1,
-        suby: sub_y == 1,
-        cols: mi_cols,
-        rows: mi_rows,
-        row,
-        col,
+        subx: n.sub_x == 1,
+        suby: n.sub_y == 1,
+        cols: n.mi_cols,
+        rows: n.mi_rows,
+        row: n.mi_row,
+        col: n.mi_col,
     };
-    let direction = pass_of(pass);
-    if (edge_count(s, direction) <= edge) | (edge_len(s, direction) <= i) {
+    let direction = pass_of(n.pass);
+    if (edge_count(s, direction) <= n.edge) | (edge_len(s, direction) <= n.i) {
         return Err(Fault::Position);
     }
     let at = EdgePosition {
         s: PlacedSuperblock { of: s },
         pass: direction,
-        edge,
-        i,
+        edge: n.edge,
+        i: n.i,
     };
     Ok(superblock_filter_edge_unchecked(at, mi))
 }

@@ -1,6 +1,8 @@
 // The keys of a pass, as both passes and the run sheet go by them.
 ghost use Rattle.std.specs.Prelude.{◌≡◌, ◌<◌};
-ghost use Rattle.keys.specs.Keyed.{Keyed, key_for};
+ghost use Rattle.keys.specs.Keyed.{Keyed, key_for, keys_along};
+
+use base::key::Key;
 
 // The keys of the outer and of the inner edges, and the first decided position that reads a cell without level, if one does.
 #[derive(Clone, Copy)]
@@ -12,17 +14,28 @@ pub struct Keys {
 }
 
 impl Keys {
-    // The key of cell c along an edge. The outer edges have the even numbers.
-    #[tactic(auto, unfolding(crate::specs::Keyed::key_for))]
-    pub fn key_at_unchecked(&self, edge: usize, c: usize) -> u8
-        requires { (edge < 16) × (c < 8) }
-        ensures { (result ≡ key_for self.now.outer self.now.inner edge c) × (result < 192) }
+    // The keys of the 8 cells along an edge. The outer edges have the even numbers.
+    pub fn of_edge_unchecked(&self, edge: usize) -> &[u8]
+        requires { edge < 16 }
+        ensures { result.now ≡ keys_along self.now.outer self.now.inner edge }
     {
-        let k = 8 * (edge / 2) + c;
-        if edge % 2 == 0 {
-            self.outer[k]
+        let keys = if edge % 2 == 0 {
+            &self.outer
         } else {
-            self.inner[k]
+            &self.inner
+        };
+        let at = 8 * (edge / 2);
+        &keys[at..at + 8]
+    }
+
+    // The key of cell c along an edge.
+    #[tactic(auto, unfolding(crate::specs::Keyed::key_for))]
+    pub fn key_at_unchecked(&self, edge: usize, c: usize) -> Key
+        requires { (edge < 16) × (c < 8) }
+        ensures { result.number ≡ key_for self.now.outer self.now.inner edge c }
+    {
+        Key {
+            number: self.of_edge_unchecked(edge)[c],
         }
     }
 }

@@ -10,8 +10,8 @@ ghost use Rattle.lane_filters.specs.Small.{Small};
 
 mod narrow;
 
-use base::depth::Depth;
 use lane::{Four, Lane, Six};
+use line::line_strength::LineStrength;
 use line::masks::{filter_mask_unchecked, flat_mask, flat_mask2, hev_mask};
 use narrow::narrow_filter;
 use wide_filter::{wide_fourteen_unchecked, wide_six_unchecked};
@@ -53,64 +53,52 @@ fn with_six(a: Lane<u16>, r: Six<u16>) -> Lane<u16>
 }
 
 // Whether a filter is on at all.
-pub fn lane_mask(a: Lane<u16>, depth: Depth, limit: u8, blimit: u8) -> bool
-    ensures { result ≡ filter_mask (scaled depth.bits limit) (scaled depth.bits blimit) (samples_of a) }
+pub fn lane_mask(a: Lane<u16>, f: LineStrength) -> bool
+    ensures { result ≡ filter_mask (scaled f.depth.bits f.limit) (scaled f.depth.bits f.blimit) (samples_of a) }
 {
-    filter_mask_unchecked(a, depth.scaled(limit), depth.scaled(blimit))
+    filter_mask_unchecked(a, f.depth.scaled(f.limit), f.depth.scaled(f.blimit))
 }
 
 // A lane at size 0, 1 and 2. The samples of the answer are those that can change. Lanes of bytes have keys of their own, so that
 // they are told apart by their filter first; these share one.
 
-pub fn lane_four_unchecked(
-    a: Lane<u16>,
-    depth: Depth,
-    limit: u8,
-    blimit: u8,
-    thresh: u8,
-) -> Four<u16>
+pub fn lane_four_unchecked(a: Lane<u16>, f: LineStrength) -> Four<u16>
     requires { Small a }
-    ensures { put_taps (samples_of a) 6 (four_of result) ≡ sample_filtering depth.bits 0 limit blimit thresh (samples_of a) }
+    ensures { put_taps (samples_of a) 6 (four_of result) ≡ sample_filtering f.depth.bits 0 f.limit f.blimit f.thresh (samples_of a) }
 {
-    if !lane_mask(a, depth, limit, blimit) {
+    if !lane_mask(a, f) {
         return a.four();
     }
-    let hev = hev_mask(a, depth.scaled(thresh));
-    narrow_filter(a, hev, depth)
+    let hev = hev_mask(a, f.depth.scaled(f.thresh));
+    narrow_filter(a, hev, f.depth)
 }
 
-pub fn lane_six_unchecked(a: Lane<u16>, depth: Depth, limit: u8, blimit: u8, thresh: u8) -> Six<u16>
+pub fn lane_six_unchecked(a: Lane<u16>, f: LineStrength) -> Six<u16>
     requires { Small a }
-    ensures { put_taps (samples_of a) 5 (six_of result) ≡ sample_filtering depth.bits 1 limit blimit thresh (samples_of a) }
+    ensures { put_taps (samples_of a) 5 (six_of result) ≡ sample_filtering f.depth.bits 1 f.limit f.blimit f.thresh (samples_of a) }
 {
-    if !lane_mask(a, depth, limit, blimit) {
+    if !lane_mask(a, f) {
         return a.six();
     }
-    if !flat_mask(a, depth.scaled(1)) {
-        let hev = hev_mask(a, depth.scaled(thresh));
-        return with_four(a, narrow_filter(a, hev, depth));
+    if !flat_mask(a, f.depth.scaled(1)) {
+        let hev = hev_mask(a, f.depth.scaled(f.thresh));
+        return with_four(a, narrow_filter(a, hev, f.depth));
     }
     wide_six_unchecked::<u16>(a)
 }
 
-pub fn lane_fourteen_unchecked(
-    a: Lane<u16>,
-    depth: Depth,
-    limit: u8,
-    blimit: u8,
-    thresh: u8,
-) -> Lane<u16>
+pub fn lane_fourteen_unchecked(a: Lane<u16>, f: LineStrength) -> Lane<u16>
     requires { Small a }
-    ensures { put_taps (samples_of a) 1 (fourteen_of result) ≡ sample_filtering depth.bits 2 limit blimit thresh (samples_of a) }
+    ensures { put_taps (samples_of a) 1 (fourteen_of result) ≡ sample_filtering f.depth.bits 2 f.limit f.blimit f.thresh (samples_of a) }
 {
-    if !lane_mask(a, depth, limit, blimit) {
+    if !lane_mask(a, f) {
         return a;
     }
-    if !flat_mask(a, depth.scaled(1)) {
-        let hev = hev_mask(a, depth.scaled(thresh));
-        return with_six(a, with_four(a, narrow_filter(a, hev, depth)));
+    if !flat_mask(a, f.depth.scaled(1)) {
+        let hev = hev_mask(a, f.depth.scaled(f.thresh));
+        return with_six(a, with_four(a, narrow_filter(a, hev, f.depth)));
     }
-    if !flat_mask2(a, depth.scaled(1)) {
+    if !flat_mask2(a, f.depth.scaled(1)) {
         return with_six(a, wide_six_unchecked::<u16>(a));
     }
     wide_fourteen_unchecked::<u16>(a)

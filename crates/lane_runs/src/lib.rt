@@ -13,22 +13,15 @@ mod lines;
 pub mod rows;
 
 use across::Across;
-use base::depth::Depth;
 use down::Down;
+use line::line_strength::LineStrength;
 use lines::filter_lines;
-use strength::FilterStrength;
 use tap_places::tap_run::TapRun;
 
 // The work without tests, for a caller that has made them.
-pub fn filter_lane_run_unchecked(
-    samples: &mut [u16],
-    run: TapRun,
-    depth: Depth,
-    size: u8,
-    strength: FilterStrength,
-)
+pub fn filter_lane_run_unchecked(samples: &mut [u16], run: TapRun, size: u8, f: LineStrength)
     requires { LaneRun run.at run.step run.along run.n samples.old }
-    ensures { samples.new ≡ in_turn (plain_run run.at run.step run.along (sample_filtering depth.bits size strength.limit strength.blimit strength.thresh)) run.n samples.old }
+    ensures { samples.new ≡ in_turn (plain_run run.at run.step run.along (sample_filtering f.depth.bits size f.limit f.blimit f.thresh)) run.n samples.old }
 {
     if run.n == 0 {
         return;
@@ -39,13 +32,13 @@ pub fn filter_lane_run_unchecked(
             along: run.along,
             n: run.n,
         };
-        filter_lines(lines, samples, depth, size, strength);
+        filter_lines(lines, samples, size, f);
     } else {
         let lines = Down {
             at: run.at,
             step: run.step,
             n: run.n,
         };
-        filter_lines(lines, samples, depth, size, strength);
+        filter_lines(lines, samples, size, f);
     }
 }

@@ -7,9 +7,8 @@ ghost use Rattle.window.specs.Stencil.{in_turn};
 ghost use Rattle.lane_runs.specs.Spread.{Spread, SpacedRun, LaneRun, Loaded};
 
 use crate::rows::Rows;
-use base::depth::Depth;
 use lanes::filter_lanes_unchecked;
-use strength::FilterStrength;
+use line::line_strength::LineStrength;
 
 // Lines whose taps, or which themselves, stand side by side.
 pub(crate) trait Lines: Copy {
@@ -57,34 +56,23 @@ fn changed_taps(size: u8) -> Rows
 }
 
 // A constant size, so that the numbers of taps are constants and the loops over taps are unrolled.
-fn filter_sized<L: Lines, const SIZE: u8>(
-    lines: L,
-    samples: &mut [u16],
-    depth: Depth,
-    strength: FilterStrength,
-)
+fn filter_sized<L: Lines, const SIZE: u8>(lines: L, samples: &mut [u16], f: LineStrength)
     requires { LaneRun (L.at lines) (L.step lines) (L.along lines) (L.n lines) samples.old }
-    ensures { samples.new ≡ in_turn (plain_run (L.at lines) (L.step lines) (L.along lines) (sample_filtering depth.bits SIZE strength.limit strength.blimit strength.thresh)) (L.n lines) samples.old }
+    ensures { samples.new ≡ in_turn (plain_run (L.at lines) (L.step lines) (L.along lines) (sample_filtering f.depth.bits SIZE f.limit f.blimit f.thresh)) (L.n lines) samples.old }
 {
     let mut t = lines.gather(samples, read_taps(SIZE));
-    if filter_lanes_unchecked(&mut t, lines.count(), depth, SIZE, strength) {
+    if filter_lanes_unchecked(&mut t, lines.count(), SIZE, f) {
         lines.scatter(samples, &t, changed_taps(SIZE));
     }
 }
 
-pub(crate) fn filter_lines<L: Lines>(
-    lines: L,
-    samples: &mut [u16],
-    depth: Depth,
-    size: u8,
-    strength: FilterStrength,
-)
+pub(crate) fn filter_lines<L: Lines>(lines: L, samples: &mut [u16], size: u8, f: LineStrength)
     requires { LaneRun (L.at lines) (L.step lines) (L.along lines) (L.n lines) samples.old }
-    ensures { samples.new ≡ in_turn (plain_run (L.at lines) (L.step lines) (L.along lines) (sample_filtering depth.bits size strength.limit strength.blimit strength.thresh)) (L.n lines) samples.old }
+    ensures { samples.new ≡ in_turn (plain_run (L.at lines) (L.step lines) (L.along lines) (sample_filtering f.depth.bits size f.limit f.blimit f.thresh)) (L.n lines) samples.old }
 {
     match size {
-        0 => filter_sized::<L, 0>(lines, samples, depth, strength),
-        1 => filter_sized::<L, 1>(lines, samples, depth, strength),
-        _ => filter_sized::<L, 2>(lines, samples, depth, strength),
+        0 => filter_sized::<L, 0>(lines, samples, f),
+        1 => filter_sized::<L, 1>(lines, samples, f),
+        _ => filter_sized::<L, 2>(lines, samples, f),
     }
 }

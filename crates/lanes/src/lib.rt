@@ -7,10 +7,9 @@ ghost use Rattle.lanes.specs.Lanes.{Table, Lanes, NoneTo};
 
 pub mod table;
 
-use base::depth::Depth;
 use lane::Lane;
 use lane_filters::{lane_four_unchecked, lane_fourteen_unchecked, lane_mask, lane_six_unchecked};
-use strength::FilterStrength;
+use line::line_strength::LineStrength;
 use table::{each_lane_unchecked, lane_at_unchecked};
 
 // n rounded up to whole vectors of 8 lanes, so that no loop ends in single lanes.
@@ -23,52 +22,39 @@ fn whole(n: usize) -> usize
 
 // Whether the filter mask is on in one of the first m lanes that is below n. Idle lanes would pass it. By number, since no slice
 // of the table holds a lane.
-fn any_mask(t: &[u16; 256], m: usize, n: u16, depth: Depth, limit: u8, blimit: u8) -> bool
+fn any_mask(t: &[u16; 256], m: usize, n: u16, f: LineStrength) -> bool
     requires { Table t.now × (m ≤ 16) }
-    ensures { result ≡ false → NoneTo m n depth.bits limit blimit t.now }
+    ensures { result ≡ false → NoneTo m n f.depth.bits f.limit f.blimit t.now }
 {
     let mut on = false;
     for l in 0..m {
         let a = lane_at_unchecked(t, l);
-        on |= lane_mask(a, depth, limit, blimit) & ((l as u16) < n);
+        on |= lane_mask(a, f) & ((l as u16) < n);
     }
     on
 }
 
 // Filters the first n lanes. The answer is false where none of them changes, so that nothing need be stored. The size is a
 // number, the standard's filterSize: 8.8.2 computes with it, and keys pack it.
-pub fn filter_lanes_unchecked(
-    t: &mut [u16; 256],
-    n: usize,
-    depth: Depth,
-    size: u8,
-    strength: FilterStrength,
-) -> bool
+pub fn filter_lanes_unchecked(t: &mut [u16; 256], n: usize, size: u8, f: LineStrength) -> bool
     requires { (n ≤ 16) × Table t.old }
-    ensures { Lanes n (sample_filtering depth.bits size strength.limit strength.blimit strength.thresh) t.old t.new × (result ≡ false → t.new ≡ t.old) }
+    ensures { Lanes n (sample_filtering f.depth.bits size f.limit f.blimit f.thresh) t.old t.new × (result ≡ false → t.new ≡ t.old) }
 {
-    let limit = strength.limit;
-    let blimit = strength.blimit;
-    let thresh = strength.thresh;
     let m = whole(n);
-    if !any_mask(t, m, n as u16, depth, limit, blimit) {
+    if !any_mask(t, m, n as u16, f) {
         return false;
     }
     // A loop for each size, so that none asks for it.
     if size == 0 {
-        each_lane_unchecked(t, m, |a: Lane<u16>, _: usize| {
-            lane_four_unchecked(a, depth, limit, blimit, thresh)
-        });
+        each_lane_unchecked(t, m, |a: Lane<u16>, _: usize| { lane_four_unchecked(a, f) });
         return true;
     }
     if size == 1 {
-        each_lane_unchecked(t, m, |a: Lane<u16>, _: usize| {
-            lane_six_unchecked(a, depth, limit, blimit, thresh)
-        });
+        each_lane_unchecked(t, m, |a: Lane<u16>, _: usize| { lane_six_unchecked(a, f) });
         return true;
     }
     each_lane_unchecked(t, m, |a: Lane<u16>, _: usize| {
-        lane_fourteen_unchecked(a, depth, limit, blimit, thresh)
+        lane_fourteen_unchecked(a, f)
     });
     true
 }

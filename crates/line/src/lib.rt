@@ -9,6 +9,7 @@ ghost use Rattle.base.specs.Width.{U16};
 ghost use Rattle.line.specs.SampleFiltering.{sample_filtering};
 ghost use Rattle.line.specs.Line.{reaches, line};
 
+pub mod line_strength;
 pub mod masks;
 mod narrow;
 mod stored;
@@ -17,39 +18,34 @@ use base::depth::Depth;
 use base::fault::Fault;
 use base::search::first_place;
 use lane::Lane;
+use line_strength::LineStrength;
 use masks::{filter_mask_unchecked, flat_mask, flat_mask2, hev_mask};
 use narrow::narrow_filter;
 use stored::{store_fourteen, store_six};
-use wide_filter::{wide_fourteen_unchecked, wide_six_unchecked};
+use wide_filter::{wide_fourteen, wide_six};
 
 // The work without the tests, for a caller that has made them. The size is a number, the standard's filterSize: 8.8.2 computes
 // with it, and keys pack it.
 #[tactic(auto, unfolding(crate::specs::SampleFiltering::sample_filtering))]
-pub fn sample_filtering_unchecked(
-    t: &mut [u16; 16],
-    depth: Depth,
-    size: u8,
-    limit: u8,
-    blimit: u8,
-    thresh: u8,
-)
-    ensures { t.new ≡ sample_filtering depth.bits size limit blimit thresh t.old }
+pub fn sample_filtering_unchecked(t: &mut [u16; 16], size: u8, f: LineStrength)
+    ensures { t.new ≡ sample_filtering f.depth.bits size f.limit f.blimit f.thresh t.old }
 {
     let a = Lane::of_line(t);
-    if !filter_mask_unchecked(a, depth.scaled(limit), depth.scaled(blimit)) {
+    let depth = f.depth;
+    if !filter_mask_unchecked(a, depth.scaled(f.limit), depth.scaled(f.blimit)) {
         return;
     }
     let one = depth.scaled(1);
     if (size == 0) | !flat_mask(a, one) {
-        let hev = hev_mask(a, depth.scaled(thresh));
+        let hev = hev_mask(a, depth.scaled(f.thresh));
         narrow_filter(t, hev, depth);
         return;
     }
     if (size == 1) | !flat_mask2(a, one) {
-        store_six(t, wide_six_unchecked::<u32>(a));
+        store_six(t, wide_six(a));
         return;
     }
-    store_fourteen(t, wide_fourteen_unchecked::<u32>(a));
+    store_fourteen(t, wide_fourteen(a));
 }
 
 // The first tap whose sample is not below the bound.
@@ -80,6 +76,12 @@ pub fn sample_filtering(
     if 2 < size {
         return Err(Fault::FilterSize);
     }
-    sample_filtering_unchecked(t, depth, size, limit, blimit, thresh);
+    let f = LineStrength {
+        depth,
+        limit,
+        blimit,
+        thresh,
+    };
+    sample_filtering_unchecked(t, size, f);
     Ok(())
 }

@@ -6,10 +6,12 @@ ghost use Rattle.window.specs.RangeLaws.{InRange};
 ghost use Rattle.window.specs.WindowLaws.{Lent};
 
 use base::depth::Depth;
+use base::level::Level;
 use base::sharpness::Sharpness;
 use decided::PassRuns;
 use geometry::Pass;
 use keys::Keys;
+use line::line_strength::LineStrength;
 use positions::{EdgePosition, PlacedSuperblock};
 use runs::filter_run_unchecked;
 use strength::limits_table;
@@ -39,7 +41,8 @@ pub(crate) fn filter_keys(
         };
         let x = start.plane_x();
         let y = start.plane_y();
-        let strength = limits.strength_unchecked(a.level, sharpness);
-        filter_run_unchecked(samples, g, pass, x, y, a.count, depth, a.size, strength);
+        let strength = limits.strength(Level { number: a.level }, sharpness);
+        let f = LineStrength::new(depth, strength);
+        filter_run_unchecked(samples, g, pass, x, y, a.count, a.size, f);
     }
 }

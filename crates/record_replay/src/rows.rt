@@ -7,8 +7,9 @@ ghost use Rattle.row.specs.RowLists.{lists_of};
 
 use base::fault::Fault;
 use cell_records::CellRecord;
-use record_row::{RowNumbers, row_records};
+use record_row::row_records;
 use row::mode_info::ModeInfoLists;
+use row::numbers::RowNumbers;
 
 // The row into the first records, `lent` of them; the others are left, and a refusal leaves all.
 pub fn row_front_unchecked(

@@ -11,6 +11,7 @@ use base::fault::Fault;
 use cell_records::{CellRecord, record_of};
 use geometry::cell_count_unchecked;
 use row::mode_info::ModeInfoLists;
+use row::numbers::RowNumbers;
 use row::row_cells;
 
 // The first count records become those of the words; what stands behind is left.
@@ -21,28 +22,6 @@ fn store_records_unchecked(words: &[u32], count: usize, records: &mut [CellRecor
     for (k, word) in words[..count].iter().enumerate() {
         records[k] = record_of(*word);
     }
-}
-
-// Plain numbers, any of which is taken and tested, since they cross from C.
-//
-// The numbers of springspade_row: the frame's, and the row's.
-#[repr(C)]
-#[derive(Clone, Copy)]
-pub struct RowNumbers {
-    // 0 to 7.
-    pub sharpness: u8,
-    // 8, 10 or 12.
-    pub bit_depth: u8,
-    // Whether the frame's planes 1 and 2 are subsampled across: 0 or 1.
-    pub sub_x: u8,
-    // Whether they are subsampled down: 0 or 1.
-    pub sub_y: u8,
-    // The frame's width in units of 8 luma samples, 1 to 8192.
-    pub mi_cols: usize,
-    // The frame's height in the same units, 1 to 8192.
-    pub mi_rows: usize,
-    // The first row of the superblock row, a multiple of 8 below mi_rows.
-    pub mi_row: usize,
 }
 
 // The row in the first words, as many as records are lent.
@@ -56,18 +35,7 @@ fn row_words(
     ensures { Answers (row_with (lists_of lists.entry) levels.now p (take (min lent (length words.old)) words.old)) (returned_of result) (take (min lent (length words.old)) words.old) (take (min lent (length words.old)) words.new) }
 {
     let n = lent.min(words.len());
-    row_cells(
-        lists,
-        levels,
-        p.sharpness,
-        p.bit_depth,
-        p.sub_x,
-        p.sub_y,
-        p.mi_cols,
-        p.mi_rows,
-        p.mi_row,
-        &mut words[..n],
-    )
+    row_cells(lists, levels, p, &mut words[..n])
 }
 
 // Takes any lists and any numbers. A refusal leaves every record as it was.

@@ -10,6 +10,7 @@ ghost use Rattle.row.specs.Row.{word_at, bad_level, too_short, bad_at, row};
 ghost use Rattle.row.specs.RowLists.{lists_of};
 
 pub mod mode_info;
+pub mod numbers;
 mod word;
 
 use base::depth::is_supported;
@@ -17,6 +18,7 @@ use base::fault::Fault;
 use base::search::first_place;
 use geometry::{bad_frame_size, bad_start, bad_subsampling, cell_count_unchecked};
 use mode_info::{ModeInfoLists, first_bad_block};
+use numbers::RowNumbers;
 use word::WordTables;
 
 // The first level above 63.
@@ -51,42 +53,36 @@ fn row_cells_unchecked(
 pub fn row_cells(
     lists: ModeInfoLists,
     levels: &[u8; 64],
-    sharpness: u8,
-    depth: u8,
-    sub_x: u8,
-    sub_y: u8,
-    mi_cols: usize,
-    mi_rows: usize,
-    base: usize,
+    n: RowNumbers,
     cells: &mut [u32],
 ) -> Result<(), Fault>
-    ensures { Answers (row (lists_of lists.entry) levels.now sharpness depth sub_x sub_y mi_cols mi_rows base cells.old) (returned_of result) cells.old cells.new }
+    ensures { Answers (row (lists_of lists.entry) levels.now n.sharpness n.bit_depth n.sub_x n.sub_y n.mi_cols n.mi_rows n.mi_row cells.old) (returned_of result) cells.old cells.new }
 {
-    if 7 < sharpness {
+    if 7 < n.sharpness {
         return Err(Fault::Sharpness);
     }
-    if !is_supported(depth) {
+    if !is_supported(n.bit_depth) {
         return Err(Fault::Depth);
     }
-    if bad_subsampling(sub_x, sub_y) {
+    if bad_subsampling(n.sub_x, n.sub_y) {
         return Err(Fault::Subsampling);
     }
-    if bad_frame_size(mi_cols, mi_rows) {
+    if bad_frame_size(n.mi_cols, n.mi_rows) {
         return Err(Fault::FrameSize);
     }
-    if bad_start(base, mi_rows) {
+    if bad_start(n.mi_row, n.mi_rows) {
         return Err(Fault::Row);
     }
     if let Some(k) = first_bad_level(levels) {
         return Err(Fault::Level(k));
     }
-    let count = cell_count_unchecked(base, mi_cols, mi_rows);
+    let count = cell_count_unchecked(n.mi_row, n.mi_cols, n.mi_rows);
     if lists.are_short(count) | (cells.len() < count) {
         return Err(Fault::Short);
     }
     if let Some(k) = first_bad_block(lists.mi_sizes, lists.tx_sizes, lists.skips, count) {
         return Err(Fault::Block(k));
     }
-    row_cells_unchecked(lists, levels, sub_x == 1, sub_y == 1, count, cells);
+    row_cells_unchecked(lists, levels, n.sub_x == 1, n.sub_y == 1, count, cells);
     Ok(())
 }

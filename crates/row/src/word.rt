@@ -7,6 +7,7 @@ ghost use Rattle.cells.specs.Cell.{packed};
 ghost use Rattle.row.specs.Row.{cell_from, bad_level};
 
 use crate::mode_info::CellMi;
+use blocks::block_size::BlockSize;
 use blocks::mode_info::{is_intra, sb_size};
 use blocks::partition::{mi_height_log2_table, mi_width_log2_table};
 use cells::{LfCell, pack_unchecked};
@@ -41,11 +42,10 @@ impl<'a> WordTables<'a> {
     }
 
     // get_uv_tx_size( ), by the limits of the frame's subsampling.
-    fn uv_tx_unchecked(&self, mi: CellMi) -> u8
-        requires { mi.mi_size ≤ 12 }
-        ensures { result ≡ min mi.tx_size (get_or self.now.limits mi.mi_size 0) }
+    fn uv_tx(&self, size: BlockSize, tx_size: u8) -> u8
+        ensures { result ≡ min tx_size (get_or self.now.limits size.number 0) }
     {
-        mi.tx_size.min(self.limits[usize::from(mi.mi_size)])
+        tx_size.min(self.limits[usize::from(size.number)])
     }
 
     // What the pass reads of a cell whose size was tested.
@@ -69,7 +69,7 @@ impl<'a> WordTables<'a> {
             height0: self.heights[size],
             height1: self.heights[raised],
             tx: mi.tx_size,
-            uvtx: self.uv_tx_unchecked(mi),
+            uvtx: self.uv_tx(BlockSize { number: mi.mi_size }, mi.tx_size),
             skipped: (mi.skip == 1) & !is_intra(mi.ref_frame),
             present: lvl.is_some(),
             level: lvl.unwrap_or(0),

@@ -5,9 +5,8 @@ ghost use Rattle.window.specs.Stencil.{in_turn};
 ghost use Rattle.window.specs.Window.{run_of};
 ghost use Rattle.window.specs.WindowLaws.{Lent};
 
-use base::depth::Depth;
 use border_position::filter_position_unchecked;
-use strength::FilterStrength;
+use line::line_strength::LineStrength;
 use tap_places::run_start::RunStart;
 use window::WindowShape;
 
@@ -18,15 +17,14 @@ pub(crate) fn filter_border(
     g: WindowShape,
     start: RunStart,
     n: usize,
-    depth: Depth,
     size: u8,
-    strength: FilterStrength,
+    f: LineStrength,
 )
     requires { Lent g (length samples.old) × (n ≤ 64) }
-    ensures { samples.new ≡ in_turn (run_of g start.pass start.x start.y (sample_filtering depth.bits size strength.limit strength.blimit strength.thresh)) n samples.old }
+    ensures { samples.new ≡ in_turn (run_of g start.pass start.x start.y (sample_filtering f.depth.bits size f.limit f.blimit f.thresh)) n samples.old }
 {
     for k in 0..n {
         let p = start.position_unchecked(k);
-        filter_position_unchecked(samples, g, p, depth, size, strength);
+        filter_position_unchecked(samples, g, p, size, f);
     }
 }

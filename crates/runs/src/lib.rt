@@ -10,11 +10,10 @@ ghost use Rattle.window.specs.RangeLaws.{InRange};
 
 mod border;
 
-use base::depth::Depth;
 use border::filter_border;
 use geometry::{Pass, Plane};
 use lane_runs::filter_lane_run_unchecked;
-use strength::FilterStrength;
+use line::line_strength::LineStrength;
 use tap_places::run_start::RunStart;
 use window::WindowShape;
 
@@ -27,12 +26,11 @@ pub fn filter_run_unchecked(
     x: Plane,
     y: Plane,
     n: usize,
-    depth: Depth,
     size: u8,
-    strength: FilterStrength,
+    f: LineStrength,
 )
     requires { Lent g (length samples.old) × (x.0 ≤ 131072) × (y.0 ≤ 131072) × (n ≤ 16) × InRange g 4096 samples.old }
-    ensures { samples.new ≡ in_turn (run_of g pass x.0 y.0 (sample_filtering depth.bits size strength.limit strength.blimit strength.thresh)) n samples.old }
+    ensures { samples.new ≡ in_turn (run_of g pass x.0 y.0 (sample_filtering f.depth.bits size f.limit f.blimit f.thresh)) n samples.old }
 {
     let start = RunStart {
         pass,
@@ -41,8 +39,8 @@ pub fn filter_run_unchecked(
     };
     if start.is_inside_unchecked(g, n) {
         let run = start.taps_unchecked(g, n);
-        filter_lane_run_unchecked(samples, run, depth, size, strength);
+        filter_lane_run_unchecked(samples, run, size, f);
     } else {
-        filter_border(samples, g, start, n, depth, size, strength);
+        filter_border(samples, g, start, n, size, f);
     }
 }

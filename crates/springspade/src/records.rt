@@ -9,7 +9,7 @@ ghost use Rattle.row.specs.Row.{mode_info};
 use c_border::Refusal;
 use cell_records::CellRecord;
 use geometry::pass_numbers::PassNumbers;
-use record_row::RowNumbers;
+use row::numbers::RowNumbers;
 
 // As springspade_pass, with the numbers behind the window in a record.
 #[unsafe(no_mangle)]

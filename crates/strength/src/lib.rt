@@ -9,6 +9,7 @@ ghost use Rattle.strength.specs.StrengthLaws.{Limits};
 mod limits;
 
 use base::fault::Fault;
+use base::level::Level;
 use base::sharpness::Sharpness;
 use limits::LIMITS;
 
@@ -50,11 +51,10 @@ pub fn limits_table() -> LimitTable {
 }
 
 impl LimitTable {
-    // The work without the tests.
-    pub fn strength_unchecked(&self, lvl: u8, sharpness: Sharpness) -> FilterStrength
-        requires { lvl ≤ 63 }
-        ensures { result ≡ strength_of lvl sharpness.level }
+    pub fn strength(&self, level: Level, sharpness: Sharpness) -> FilterStrength
+        ensures { result ≡ strength_of level.number sharpness.level }
     {
+        let lvl = level.number;
         let limit = self.limits[usize::from(sharpness.level) * 64 + usize::from(lvl)];
         FilterStrength {
             lvl,
@@ -73,8 +73,8 @@ pub fn strength_for_level(lvl: u8, sharpness: u8) -> Result<FilterStrength, Faul
     let Some(sharpness) = Sharpness::new(sharpness) else {
         return Err(Fault::Sharpness);
     };
-    if 63 < lvl {
+    let Some(level) = Level::new(lvl) else {
         return Err(Fault::Level(0));
-    }
-    Ok(limits_table().strength_unchecked(lvl, sharpness))
+    };
+    Ok(limits_table().strength(level, sharpness))
 }

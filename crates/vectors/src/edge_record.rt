@@ -1,6 +1,7 @@
 // A record of a position's facts, laid out as tests/differential/src/vectors.rs says.
 use crate::numbers::{i32_at, size16_at, size32_at};
 use base::fault::Fault;
+use edges::numbers::EdgeNumbers;
 use edges::{SuperblockFilterEdge, SuperblockFilterMi, superblock_filter_edge};
 
 fn edge_answer(record: &[u8; 46]) -> Result<SuperblockFilterEdge, Fault> {
@@ -10,18 +11,18 @@ fn edge_answer(record: &[u8; 46]) -> Result<SuperblockFilterEdge, Fault> {
         skip: record[5],
         ref_frame: i32_at(record, 20),
     };
-    superblock_filter_edge(
-        record[0],
-        size16_at(record, 8),
-        size16_at(record, 10),
-        size16_at(record, 12),
-        size16_at(record, 14),
-        record[1],
-        record[2],
-        size16_at(record, 16),
-        size16_at(record, 18),
-        mi,
-    )
+    let n = EdgeNumbers {
+        pass: record[0],
+        sub_x: record[1],
+        sub_y: record[2],
+        mi_row: size16_at(record, 8),
+        mi_col: size16_at(record, 10),
+        edge: size16_at(record, 12),
+        i: size16_at(record, 14),
+        mi_cols: size16_at(record, 16),
+        mi_rows: size16_at(record, 18),
+    };
+    superblock_filter_edge(n, mi)
 }
 
 fn are_coordinates(record: &[u8; 46], found: SuperblockFilterEdge) -> bool {

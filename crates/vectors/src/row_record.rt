@@ -4,8 +4,8 @@ ghost use Rattle.std.specs.Prelude.{◌≤◌, ◌<◌, ◌+◌};
 use crate::numbers::{i32_at, is_answer, size16_at, u32_at};
 use cell_records::{CellRecord, record_of, word_of};
 use record_replay::rows::row_front_unchecked;
-use record_row::RowNumbers;
 use row::mode_info::ModeInfoLists;
+use row::numbers::RowNumbers;
 use row::row_cells;
 use std::array;
 
@@ -80,13 +80,7 @@ pub(crate) fn is_equal(record: &[u8; 492]) -> bool {
     let answer = row_cells(
         lists_of(record, &references),
         &levels_of(record),
-        p.sharpness,
-        p.bit_depth,
-        p.sub_x,
-        p.sub_y,
-        p.mi_cols,
-        p.mi_rows,
-        p.mi_row,
+        p,
         &mut cells[..lent],
     );
     are_lengths(record)

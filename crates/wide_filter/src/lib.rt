@@ -102,7 +102,7 @@ pub fn side_unchecked<S: Sum, const M: usize>(x: [u16; M], y: [u16; M]) -> [u16;
     r
 }
 
-// The six samples around the edge.
+// The six samples around the edge. One function for each size, since each answers the part of the line that it can change.
 pub fn wide_six_unchecked<S: Sum>(a: Lane<u16>) -> Six<u16>
     requires { Within (S.top + 1) (samples_of a) }
     ensures { put_taps (samples_of a) 5 (six_of result) ≡ wide_filter 3 (samples_of a) }
@@ -119,6 +119,13 @@ pub fn wide_six_unchecked<S: Sum>(a: Lane<u16>) -> Six<u16>
         q1: s[1],
         q2: s[2],
     }
+}
+
+// Of any samples.
+pub fn wide_six(a: Lane<u16>) -> Six<u16>
+    ensures { put_taps (samples_of a) 5 (six_of result) ≡ wide_filter 3 (samples_of a) }
+{
+    wide_six_unchecked::<u32>(a)
 }
 
 // The fourteen samples around the edge.
@@ -148,4 +155,11 @@ pub fn wide_fourteen_unchecked<S: Sum>(a: Lane<u16>) -> Lane<u16>
         q6: s[6],
         q7: a.q7,
     }
+}
+
+// Of any samples.
+pub fn wide_fourteen(a: Lane<u16>) -> Lane<u16>
+    ensures { put_taps (samples_of a) 1 (fourteen_of result) ≡ wide_filter 4 (samples_of a) }
+{
+    wide_fourteen_unchecked::<u32>(a)
 }

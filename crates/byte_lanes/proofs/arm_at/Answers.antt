@@ -3,10 +3,10 @@ use Rattle.byte_filters.specs.ByteArm.{arm_of}
 use Rattle.lanes.specs.LanesLaws.{lane_found, lane_samples}
 use Rattle.byte_lanes.proofs.arm_at.Goals as goal
 
-pub lane_arm_unchecked-requires : goal.lane_arm_unchecked-requires
-lane_arm_unchecked-requires c = c.args.keys.now.keyed.small c.args.l c.requires
+pub lane_arm-requires : goal.lane_arm-requires
+lane_arm-requires c = c.args.keys.now.keyed.small c.args.l c.requires
 
 pub returns : goal.returns
 returns c =
     let t = c.args.t.now in
-    c.lane_arm_unchecked.ensures ∙ ap (arm_of c.args.sharpness.level _) (lane_samples t c.args.l (lane_found t c.args.l c.told-t c.requires c.lane_at_unchecked.ensures))
+    c.lane_arm.ensures ∙ ap (arm_of c.args.sharpness.level _) (lane_samples t c.args.l (lane_found t c.args.l c.told-t c.requires c.lane_at_unchecked.ensures))

@@ -18,7 +18,7 @@ loop-small-preserved c =
     let steps = c.in-Some.ensures.steps in
     let rest = runs_left c.next.new.self in
     let filtered = filtered_on a.g a.s.of a.pass a.sharpness.level a.depth.bits run steps.1 _ _ _
-    c.plane_x-x.ensures.0 c.plane_y-y.ensures.0 c.strength_unchecked-strength.ensures _ _ c.filter_run_unchecked.ensures in
+    c.plane_x-x.ensures.0 c.plane_y-y.ensures.0 c.strength-strength.ensures _ _ c.filter_run_unchecked.ensures in
     let on = after_run a.s.of a.pass a.sharpness.level a.depth.bits run loop.invariant.1 loop.invariant.2 a.depth.known filtered in (
       c.in-Some.ensures.goes.keeps,
       on.0,

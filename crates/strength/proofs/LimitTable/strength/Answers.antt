@@ -1,7 +1,7 @@
 use Rattle.std.proofs.Common.{arith}
 use Rattle.strength.specs.Strength.{strength_of}
 use Rattle.strength.specs.StrengthLaws.{limit_small}
-use Rattle.strength.proofs.LimitTable.strength_unchecked.Goals as goal
+use Rattle.strength.proofs.LimitTable.strength.Goals as goal
 
 pub overflow_add-result-2 : goal.overflow_add-result-2
 overflow_add-result-2 c =

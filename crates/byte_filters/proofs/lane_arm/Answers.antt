@@ -4,8 +4,8 @@ use Rattle.strength.specs.Strength.{strength_of}
 use Rattle.line.specs.Masks.{flat_mask, flat_mask2}
 use Rattle.byte_filters.specs.ByteArm.{arm_of, number_of}
 use Rattle.lane.specs.LaneSamples.{samples_of}
-use Rattle.byte_filters.proofs.lane_arm_unchecked.Goals as goal
-use Rattle.byte_filters.proofs.lane_arm_unchecked.Goals.{Joined-flat, then-flat, else-flat, then-flat2, else-flat2}
+use Rattle.byte_filters.proofs.lane_arm.Goals as goal
+use Rattle.byte_filters.proofs.lane_arm.Goals.{Joined-flat, then-flat, else-flat, then-flat2, else-flat2}
 
 -- which filter, where one is on
 some_is : (c : Joined-flat) → let a = c.args in number_of c.if-flat.some ≡ cond (leb 64 a.key && flat_mask 1 (samples_of a.a)) (cond (leb 128 a.key && flat_mask2 1 (samples_of a.a)) 3 2) 1
