@@ -65,6 +65,8 @@ pub(crate) fn print_row(rt: &impl Print) -> Result<()> {
     println!(rt;
         "cells of two 8x8 blocks; width and height are log2 in 8-sample blocks, for subsampling 0 and 1"
     )?;
-    print_cell(rt, 0, cells[0])?;
-    print_cell(rt, 1, cells[1])
+    for (index, word) in cells.iter().enumerate() {
+        print_cell(rt, index, *word)?;
+    }
+    Ok(())
 }

@@ -16,6 +16,7 @@ use case_s::print_row;
 use frame_header::{LoopFilterParams, SegmentationParams};
 use level_lookup::LvlLookup;
 use levels::loop_filter::level_table;
+use output::print_numbers;
 use position::print_edges;
 use sheet_step::print_sheet;
 use step::print_line;
@@ -49,11 +50,7 @@ fn print_segment(rt: &impl Print, table: &LvlLookup, segment: usize) -> Result<(
     requires { segment < 8 }
 {
     print!(rt; "segment {segment}:")?;
-    for level in &table.levels[8 * segment..8 * segment + 8] {
-        print!(rt; " {level}")?;
-    }
-    println!(rt)?;
-    Ok(())
+    print_numbers(rt, &table.levels[8 * segment..8 * segment + 8])
 }
 
 fn print_strength(rt: &impl Print, lvl: u8, sharpness: u8) -> Result<()> {

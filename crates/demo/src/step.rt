@@ -1,4 +1,5 @@
 // Prints a built-in line, a step at the edge, before the filter and after it at each size.
+use crate::output::print_numbers;
 use anyhow::Result;
 use line::sample_filtering;
 use strength::strength_for_level;
@@ -8,26 +9,17 @@ const STEP: [u16; 16] = [
     100, 100, 100, 100, 100, 100, 100, 100, 104, 104, 104, 104, 104, 104, 104, 104,
 ];
 
-// Each sample behind a space.
-pub(crate) fn print_samples(rt: &impl Print, samples: &[u16]) -> Result<()> {
-    for sample in samples {
-        print!(rt; " {sample}")?;
-    }
-    println!(rt)?;
-    Ok(())
-}
-
 pub(crate) fn print_line(rt: &impl Print) -> Result<()> {
     let found = strength_for_level(32, 0)?;
     println!(rt; "line from p7 to q7, depth 8, level 32 sharpness 0")?;
     print!(rt; "before:")?;
-    print_samples(rt, &STEP)?;
+    print_numbers(rt, &STEP)?;
     // The number of the size is what is asked for and printed: no list is walked.
     for size in 0..3 {
         let mut t = STEP;
         sample_filtering(&mut t, 8, size, found.limit, found.blimit, found.thresh)?;
         print!(rt; "size {size}:")?;
-        print_samples(rt, &t)?;
+        print_numbers(rt, &t)?;
     }
     Ok(())
 }

@@ -1,6 +1,6 @@
 // Prints the superblock of the built-in row, 16 by 8 samples with a step between its blocks, before and after a pass.
 use crate::case_s::{MI_COLS, MI_ROWS, made_row};
-use crate::step::print_samples;
+use crate::output::print_numbers;
 use anyhow::Result;
 use base::fault::Fault;
 use geometry::pass_numbers::PassNumbers;
@@ -27,7 +27,7 @@ fn superblock() -> [u16; 128] {
 
 fn print_rows(rt: &impl Print, samples: &[u16; 128]) -> Result<()> {
     for row in samples.chunks(16) {
-        print_samples(rt, row)?;
+        print_numbers(rt, row)?;
     }
     Ok(())
 }

@@ -1,12 +1,13 @@
 // A record of a frame's level table, laid out as tests/differential/src/vectors.rs says.
 ghost use Rattle.std.specs.Prelude.{◌<◌};
 
-use crate::numbers::i16_at;
+use crate::numbers::{i16_at, is_answer};
 use frame_header::{LoopFilterParams, SegmentationParams};
 use level_lookup::LvlLookup;
 use levels::loop_filter::level_table;
 use std::array;
 
+// A number and no Option, as the file has it.
 const NOT_COMPARED: u8 = 255;
 
 // A byte that says whether a delta is there, and the delta.
@@ -40,13 +41,9 @@ fn segmentation_params(record: &[u8; 178]) -> SegmentationParams {
 // A refused table is compared as zeros.
 pub(crate) fn is_equal(record: &[u8; 178]) -> bool {
     let answer = level_table(loop_filter_params(record), segmentation_params(record));
-    let number = match answer {
-        Ok(_) => 0,
-        Err(fault) => fault.number(),
-    };
     let found = answer.unwrap_or(LvlLookup::zeros());
     let are_levels = record[114..].iter().zip(&found.levels).all(|(level, found)| (*level
         == NOT_COMPARED)
         | (level == found));
-    (number == u32::from(record[113])) & are_levels
+    is_answer(answer.map(|_| ()), record[113], 0) & are_levels
 }

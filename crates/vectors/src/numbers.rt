@@ -1,7 +1,8 @@
 // Numbers of a record, the lowest byte first, and answers as it has them.
-ghost use Rattle.std.specs.Prelude.{◌+◌, ◌≤◌};
+ghost use Rattle.std.specs.Prelude.{◌+◌, ◌*◌, ◌≤◌};
 
 use base::fault::Fault;
+use std::array;
 
 pub(crate) fn u16_at<const N: usize>(record: &[u8; N], at: usize) -> u16
     requires { at + 2 ≤ N }
@@ -25,6 +26,20 @@ pub(crate) fn i32_at<const N: usize>(record: &[u8; N], at: usize) -> i32
     requires { at + 4 ≤ N }
 {
     u32_at(record, at).cast_signed()
+}
+
+// M numbers, side by side.
+
+pub(crate) fn u16s_at<const N: usize, const M: usize>(record: &[u8; N], at: usize) -> [u16; M]
+    requires { at + 2 * M ≤ N }
+{
+    array::from_fn(|k| u16_at(record, at + 2 * k))
+}
+
+pub(crate) fn u32s_at<const N: usize, const M: usize>(record: &[u8; N], at: usize) -> [u32; M]
+    requires { at + 4 * M ≤ N }
+{
+    array::from_fn(|k| u32_at(record, at + 4 * k))
 }
 
 // Those that a call takes as a size.
