@@ -73,6 +73,32 @@ impl Lane<u16> {
     }
 }
 
+// Bytes widened.
+impl From<Lane<u8>> for Lane<u16> {
+    ghost from_gives = { λ a r. samples_of r ≡ samples_of a };
+
+    fn from(a: Lane<u8>) -> Self {
+        Lane {
+            p7: u16::from(a.p7),
+            p6: u16::from(a.p6),
+            p5: u16::from(a.p5),
+            p4: u16::from(a.p4),
+            p3: u16::from(a.p3),
+            p2: u16::from(a.p2),
+            p1: u16::from(a.p1),
+            p0: u16::from(a.p0),
+            q0: u16::from(a.q0),
+            q1: u16::from(a.q1),
+            q2: u16::from(a.q2),
+            q3: u16::from(a.q3),
+            q4: u16::from(a.q4),
+            q5: u16::from(a.q5),
+            q6: u16::from(a.q6),
+            q7: u16::from(a.q7),
+        }
+    }
+}
+
 impl<T: Copy> Lane<T> {
     pub fn four(self) -> Four<T>
         ensures { result ≡ record { p1 = self.p1; p0 = self.p0; q0 = self.q0; q1 = self.q1 } }
