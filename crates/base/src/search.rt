@@ -2,8 +2,8 @@
 ghost use Rattle.std.specs.Prelude.{◌≡◌, ℕ, Bool, ◌<◌};
 ghost use Rattle.base.specs.First.{found, first, first_found};
 
-// Whether the test holds at one of n places. The loop has no branch, which vectorises. Here and below a loop over the places, and no fold
-// or find of 0..n: their proof asks that the test may be called anywhere, and it may be called only below n.
+// Whether the test holds at one of n places. The loop has no branch, which vectorises. The test is handed in and may be called only
+// below n: that a fold or find of 0..n calls it nowhere else did not close. bad_words folds, since it writes its closure itself.
 #[tactic(auto, using(crate::specs::First::found_more), unfolding(crate::specs::First::found))]
 fn any<F: Fn(usize) -> bool>(n: usize, test: &F) -> bool
     ghost holds: { ℕ → Bool }

@@ -13,6 +13,7 @@ use base::level::Level;
 use base::sharpness::Sharpness;
 use limits::LIMITS;
 
+// Modes arrive as lent bytes, and any byte is taken: numbers, and no enum.
 pub const NEARESTMV: u8 = 10;
 
 pub const NEARMV: u8 = 11;

@@ -1,7 +1,8 @@
-use Rattle.std.proofs.Common.{◌≡◌, refl, arith, ℕ, ◌+◌, ◌*◌, ◌/◌, ◌%◌, ◌≤◌, ◌<◌}
-use Rattle.base.specs.Entries.{entry}
+use Rattle.std.proofs.Common.{◌≡◌, refl, ◌∙◌, arith, T, List, length, ℕ, ◌+◌, ◌*◌, ◌/◌, ◌%◌, ◌≤◌, ◌<◌}
+use Rattle.base.specs.Entries.{entries_from, entry}
 use Rattle.base.specs.Notation.{clip3}
 use Rattle.strength.specs.Strength.{limit_of}
+use Rattle.strength.specs.StrengthLaws.{Limits}
 use Rattle.strength.proofs.limits_table.Goals as goal
 
 -- The table's rule: one test that is computed over its 512 entries, and the rule's law at the entry read.
@@ -20,11 +21,12 @@ placed lvl sharpness h = rw (level, sharp)
     sharp : (sharpness * 64 + lvl) / 64 ≡ sharpness
     sharp = omega arith
 
+ruled : (l : List ℕ) → length l ≡ 512 → T (entries_from limit_at 0 l) → Limits l
+ruled l e t = record {
+  long = e;
+  limit = λ lvl sharpness h k. let below : sharpness * 64 + lvl < length l = omega arith in entry limit_at l t (sharpness * 64 + lvl) below ∙ placed lvl sharpness h;
+}
+
 pub invariant_of-result : goal.invariant_of-result
 unfolding limit_at limit_of clip3
-invariant_of-result c = record {
-  ruled = record {
-    long = refl;
-    limit = λ lvl sharpness h k. let below : sharpness * 64 + lvl < 512 = omega arith in rw (entry limit_at) (placed lvl sharpness h);
-  };
-}
+invariant_of-result c = record { ruled = ruled _ refl tt }
