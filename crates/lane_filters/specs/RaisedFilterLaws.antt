@@ -1,7 +1,7 @@
 -- The raised values are those of the narrow filter.
 -- Assumes nothing.
-use Rattle.std.specs.Prelude.{◌≡◌, Bool, cond, List, pos, ◌+ℤ◌, ◌-ℤ◌, ◌*ℤ◌, set, ℕ, ◌+◌, ◌-◌, ◌*◌, ◌/◌, ◌^◌, ◌<◌, min}
-use Rattle.std.proofs.Common.{◌∙◌, arith}
+use Rattle.std.specs.Prelude.{◌≡◌, Bool, cond, List, pos, ◌+ℤ◌, ◌-ℤ◌, ◌*ℤ◌, ℕ, ◌+◌, ◌-◌, ◌*◌, ◌/◌, ◌^◌, ◌<◌, min}
+use Rattle.std.proofs.Common.{◌∙◌, arith, refl}
 use Rattle.std.proofs.Math.Path.{ap}
 use Rattle.std.proofs.Math.Bool.{true, false}
 use Rattle.std.proofs.Math.IntN.{sub_ℕ}
@@ -10,7 +10,7 @@ use Rattle.base.specs.Notation.{asr_z, round2_z}
 use Rattle.line.specs.NarrowFilter.{c, signed, sample, narrow_filter}
 use Rattle.wide_filter.specs.Taps.{p, q}
 use Rattle.lane_filters.specs.DifferenceLaws.{sub_same, sub_pos, sub_add, sub_sub, sub_three, sub_eighth, sub_half, sub_lowered, sub_raised, sub_clip}
-use Rattle.lane_filters.specs.RaisedFilter.{raised_base, raised_filter, raised_eighth, raised_half, increased, decreased}
+use Rattle.lane_filters.specs.RaisedFilter.{raised_base, raised_filter, raised_eighth, raised_half, increased, decreased, raised_narrow}
 
 -- the least of two where the limit is written as a double
 double : (x s : ℕ) → min x (2 * (128 * s) - 1) ≡ min x (256 * s - 1)
@@ -66,48 +66,22 @@ module _ (B s : ℕ) (known : supported B ≡ true) (is : s ≡ 2 ^ (B - 8)) whe
   decreased_is x f k =
       rw (signed_is x, sub_sub x (128 * s) f k, sample_is (x + k) (128 * s + f)) (ap (λ (n : ℕ). min n (256 * s - 1)) (omega arith))
 
-  -- the steps put together, from what each says of its number
-  module _ (hev : Bool) (t : List ℕ) (b f f1 f2 p0 q0 : ℕ) (is_b : b ≡ raised_base s hev (p t 1) (q t 1)) (is_f : f ≡ raised_filter s b (p t 0) (q t 0)) (is-f1 : f1 ≡ raised_eighth s f 4) (is-f2 : f2 ≡ raised_eighth s f 3) (is-p0 : p0 ≡ increased s (p t 0) f2 (16 * s)) (is-q0 : q0 ≡ decreased s (q t 0) f1 (16 * s)) where
-    pub narrow_high : hev ≡ true → set (set t 8 q0) 7 p0 ≡ narrow_filter B hev t
-    unfolding narrow_filter
-    narrow_high e =
-        rw (
-          base_is hev (p t 1) (q t 1),
-          ← is_b,
-          filter_is b (p t 0) (q t 0),
-          ← is_f,
-          eighth_is f 4,
-          ← is-f1,
-          eighth_is f 3,
-          ← is-f2,
-          increased_is (p t 0) f2 (16 * s),
-          ← is-p0,
-          decreased_is (q t 0) f1 (16 * s),
-          ← is-q0,
-          e,
-        )
+  pub narrow_raised : (hev : Bool) (t : List ℕ) → narrow_filter B hev t ≡ raised_narrow s hev t
+  unfolding narrow_filter
+  narrow_raised hev t =
+      rw (
+        base_is hev (p t 1) (q t 1),
+        filter_is (raised_base s hev (p t 1) (q t 1)) (p t 0) (q t 0),
+        eighth_is (raised_filter s (raised_base s hev (p t 1) (q t 1)) (p t 0) (q t 0)) 4,
+        eighth_is (raised_filter s (raised_base s hev (p t 1) (q t 1)) (p t 0) (q t 0)) 3,
+        half_is (raised_eighth s (raised_filter s (raised_base s hev (p t 1) (q t 1)) (p t 0) (q t 0)) 4),
+        increased_is (p t 0),
+        decreased_is (q t 0),
+        increased_is (p t 1),
+        decreased_is (q t 1),
+      )
 
-    pub narrow_low : hev ≡ false → (g p1 q1 : ℕ) → g ≡ raised_half f1 → p1 ≡ increased s (p t 1) g (8 * s) → q1 ≡ decreased s (q t 1) g (8 * s) → set (set (set (set t 8 q0) 7 p0) 9 q1) 6 p1 ≡ narrow_filter B hev t
-    unfolding narrow_filter
-    narrow_low e g p1 q1 is-g is-p1 is-q1 =
-        rw (
-          base_is hev (p t 1) (q t 1),
-          ← is_b,
-          filter_is b (p t 0) (q t 0),
-          ← is_f,
-          eighth_is f 4,
-          ← is-f1,
-          eighth_is f 3,
-          ← is-f2,
-          increased_is (p t 0) f2 (16 * s),
-          ← is-p0,
-          decreased_is (q t 0) f1 (16 * s),
-          ← is-q0,
-          half_is f1,
-          ← is-g,
-          increased_is (p t 1) g (8 * s),
-          ← is-p1,
-          decreased_is (q t 1) g (8 * s),
-          ← is-q1,
-          e,
-        )
+-- of bytes
+pub narrow_bytes : (hev : Bool) (t : List ℕ) → narrow_filter 8 hev t ≡ raised_narrow 1 hev t
+unfolding supported
+narrow_bytes hev t = narrow_raised 8 1 refl refl hev t

@@ -16,6 +16,9 @@ use line::masks::{filter_mask_unchecked, flat_mask, flat_mask2, hev_mask};
 use narrow::narrow_filter;
 use wide_filter::{wide_fourteen_unchecked, wide_six_unchecked};
 
+// What a larger size can change, where a smaller one's filter did the work: the taps beside are the lane's own. Two functions, since
+// each takes and answers another type.
+
 fn with_four(a: Lane<u16>, r: Four<u16>) -> Six<u16>
     ensures { put_taps (samples_of a) 5 (six_of result) ≡ put_taps (samples_of a) 6 (four_of r) }
 {
@@ -59,9 +62,11 @@ pub fn lane_mask(a: Lane<u16>, f: LineStrength) -> bool
     filter_mask_unchecked(a, f.depth.scaled(f.limit), f.depth.scaled(f.blimit))
 }
 
-// A lane at size 0, 1 and 2. The samples of the answer are those that can change. Lanes of bytes have keys of their own, so that
-// they are told apart by their filter first; these share one.
+// A lane at size 0, 1 and 2: one function for each, since each answers the part of the lane that it can change. Lanes of bytes have
+// keys of their own, so that they are told apart by their filter first; these share one. That a lane is small is a clause of each and
+// no type, since lanes come out of a table of any samples.
 
+#[tactic(auto, unfolding(line::specs::SampleFiltering::sample_filtering))]
 pub fn lane_four_unchecked(a: Lane<u16>, f: LineStrength) -> Four<u16>
     requires { Small a }
     ensures { put_taps (samples_of a) 6 (four_of result) ≡ sample_filtering f.depth.bits 0 f.limit f.blimit f.thresh (samples_of a) }
@@ -73,6 +78,7 @@ pub fn lane_four_unchecked(a: Lane<u16>, f: LineStrength) -> Four<u16>
     narrow_filter(a, hev, f.depth)
 }
 
+#[tactic(auto, unfolding(line::specs::SampleFiltering::sample_filtering))]
 pub fn lane_six_unchecked(a: Lane<u16>, f: LineStrength) -> Six<u16>
     requires { Small a }
     ensures { put_taps (samples_of a) 5 (six_of result) ≡ sample_filtering f.depth.bits 1 f.limit f.blimit f.thresh (samples_of a) }
@@ -87,6 +93,7 @@ pub fn lane_six_unchecked(a: Lane<u16>, f: LineStrength) -> Six<u16>
     wide_six_unchecked::<u16>(a)
 }
 
+#[tactic(auto, unfolding(line::specs::SampleFiltering::sample_filtering))]
 pub fn lane_fourteen_unchecked(a: Lane<u16>, f: LineStrength) -> Lane<u16>
     requires { Small a }
     ensures { put_taps (samples_of a) 1 (fourteen_of result) ≡ sample_filtering f.depth.bits 2 f.limit f.blimit f.thresh (samples_of a) }

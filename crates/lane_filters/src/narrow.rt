@@ -18,7 +18,7 @@ struct Scale {
     ghost few: { one ≤ 16 },
 }
 
-// x less y, at least 0 and at most top.
+// x less y, at least 0 and at most top. Its own function, since it joins a difference that stops at 0 with a bound.
 fn capped(x: u16, y: u16, top: u16) -> u16
     ensures { result ≡ min (x - y) top }
 {
@@ -26,6 +26,7 @@ fn capped(x: u16, y: u16, top: u16) -> u16
 }
 
 // Step 2: the outer taps count where the variance is high.
+#[tactic(auto, unfolding(crate::specs::RaisedFilter::raised_base))]
 fn filter_base(p1: u16, q1: u16, hev: bool, s: Scale) -> u16
     requires { p1 < 4096 }
     ensures { (result ≡ raised_base s.one hev p1 q1) × (result < 256 * s.one) }
@@ -38,6 +39,7 @@ fn filter_base(p1: u16, q1: u16, hev: bool, s: Scale) -> u16
 }
 
 // Step 3.
+#[tactic(auto, unfolding(crate::specs::RaisedFilter::raised_filter))]
 fn filter_value(base: u16, p0: u16, q0: u16, s: Scale) -> u16
     requires { (base < 256 * s.one) × (p0 < 4096) × (q0 < 4096) }
     ensures { (result ≡ raised_filter s.one base p0 q0) × (result < 256 * s.one) }
@@ -46,6 +48,7 @@ fn filter_value(base: u16, p0: u16, q0: u16, s: Scale) -> u16
 }
 
 // c( filter + n ) >> 3.
+#[tactic(auto, unfolding(crate::specs::RaisedFilter::raised_eighth))]
 fn eighth(filter: u16, n: u16, s: Scale) -> u16
     requires { (filter < 256 * s.one) × (n ≤ 4) }
     ensures { (result ≡ raised_eighth s.one filter n) × (result < 32 * s.one) }
@@ -63,6 +66,7 @@ fn rounded_half(filter: u16) -> u16
 
 // A sample with a value that is raised by k added, or taken away.
 
+#[tactic(auto, unfolding(crate::specs::RaisedFilter::increased))]
 fn increased(x: u16, value: u16, k: u16, s: Scale) -> u16
     requires { (value < 512) × (x < 4096) }
     ensures { result ≡ increased s.one x value k }
@@ -70,6 +74,7 @@ fn increased(x: u16, value: u16, k: u16, s: Scale) -> u16
     capped(x + value, k, 256 * s.one - 1)
 }
 
+#[tactic(auto, unfolding(crate::specs::RaisedFilter::decreased))]
 fn decreased(x: u16, value: u16, k: u16, s: Scale) -> u16
     requires { (k < 512) × (x < 4096) }
     ensures { result ≡ decreased s.one x value k }
@@ -77,7 +82,7 @@ fn decreased(x: u16, value: u16, k: u16, s: Scale) -> u16
     capped(x + k, value, 256 * s.one - 1)
 }
 
-#[tactic(auto, using(base::specs::Depth::depth_scaled))]
+#[tactic(auto, using(base::specs::Depth::depth_scaled, crate::specs::RaisedFilterLaws::narrow_raised))]
 pub(crate) fn narrow_filter(a: Lane<u16>, hev: bool, depth: Depth) -> Four<u16>
     requires { Small a }
     ensures { put_taps (samples_of a) 6 (four_of result) ≡ narrow_filter depth.bits hev (samples_of a) }
