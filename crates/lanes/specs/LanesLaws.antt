@@ -84,13 +84,13 @@ pub put-length : {T : Type 0} (t : List T) (l k : ℕ) (vs : List T) → length 
 put-length t l k [] = refl
 put-length t l k (v ∷ vs) = put-length (set t (16 * k + l) v) l (k + 1) vs ∙ length-set t (16 * k + l) v
 
-pub put-own : (t : List ℕ) (l k : ℕ) (vs : List ℕ) → length t ≡ 256 → l < 16 → k + length vs ≤ 16 → lane_of (put_lane t l k vs) l ≡ put_taps (lane_of t l) k vs
+put-own : (t : List ℕ) (l k : ℕ) (vs : List ℕ) → length t ≡ 256 → l < 16 → k + length vs ≤ 16 → lane_of (put_lane t l k vs) l ≡ put_taps (lane_of t l) k vs
 put-own t l k [] n h g = refl
 put-own t l k (v ∷ vs) n h g =
     put-own (set t (16 * k + l) v) l (k + 1) vs (length-set t (16 * k + l) v ∙ n) h (omega arith)
     ∙ ap (λ (x : List ℕ). put_taps x (k + 1) vs) (own t l k v n h (omega arith))
 
-pub put_other : (t : List ℕ) (l k : ℕ) (vs : List ℕ) (m : ℕ) → l < 16 → m < 16 → m ≢ l → lane_of (put_lane t l k vs) m ≡ lane_of t m
+put_other : (t : List ℕ) (l k : ℕ) (vs : List ℕ) (m : ℕ) → l < 16 → m < 16 → m ≢ l → lane_of (put_lane t l k vs) m ≡ lane_of t m
 put_other t l k [] m h g d = refl
 put_other t l k (v ∷ vs) m h g d = put_other (set t (16 * k + l) v) l (k + 1) vs m h g d ∙ other t l k v m h g d
 
@@ -113,15 +113,12 @@ lane_step f t u m k vs n h g e inv =
         (λ (x : m ≤ l). let y : l ≡ m = omega arith in rw y last)
         (split l m)
 
-pub lane_more : {f : ℕ → List ℕ → List ℕ} {m : ℕ} {t u v line : List ℕ} (k : ℕ) (vs : List ℕ) → m < 16 → k + length vs ≤ 16 → length u ≡ 256 → EachLaneTo m f t u → line ≡ lane_of u m → put_taps line k vs ≡ f m line → v ≡ put_lane u m k vs → (length v ≡ 256) × EachLaneTo (m + 1) f t v
+lane_more : {f : ℕ → List ℕ → List ℕ} {m : ℕ} {t u v line : List ℕ} (k : ℕ) (vs : List ℕ) → m < 16 → k + length vs ≤ 16 → length u ≡ 256 → EachLaneTo m f t u → line ≡ lane_of u m → put_taps line k vs ≡ f m line → v ≡ put_lane u m k vs → (length v ≡ 256) × EachLaneTo (m + 1) f t v
 lane_more {f} {m} {t} {u} {v} k vs h g n inv is e d =
     (ap length d ∙ put-length u m k vs ∙ n, rw d (lane_step f t u m k vs n h g (ap (λ (x : List ℕ). put_taps x k vs) (sym is) ∙ e ∙ ap (f m) is) inv))
 
 pub lanes_fewer : {n m : ℕ} {f : ℕ → List ℕ → List ℕ} {t u : List ℕ} → n ≤ m → EachLane m f t u → EachLane n f t u
 lanes_fewer h all = record { each = λ l b. all.each l (omega arith) }
-
-pub lanes_all : {n m : ℕ} {f : ℕ → List ℕ → List ℕ} {t u : List ℕ} → n ≤ m → EachLaneTo m f t u → EachLane n f t u
-lanes_all h inv = record { each = λ l b. inv.done l (omega arith) }
 
 -- ---- samples of 12 bits
 
@@ -143,9 +140,6 @@ lane_samples t l is = ap samples_of is
 -- ---- lanes whose mask is off
 
 module _ (n depth limit blimit : ℕ) where
-  pub none_none : (t : List ℕ) → NoneTo 0 n depth limit blimit t
-  none_none t = record { none = λ l b g. absurd (omega arith) }
-
   pub none_more : {a : Lane ℕ} (m : ℕ) (t : List ℕ) → a ≡ lane_at t m → filter_mask (scaled depth limit) (scaled depth blimit) (samples_of a) && ltb m n ≡ false → NoneTo m n depth limit blimit t → NoneTo (m + 1) n depth limit blimit t
   none_more {a} m t is e g = record {
     none = λ l b d. ⊎_elim (λ (x : l < m). g.none l x d) (λ (x : m ≤ l). let y : l ≡ m = omega arith in rw y (last (omega arith))) (split l m);
@@ -178,7 +172,7 @@ module _ {T : Type 0} (value : T → ℕ) where
       at : (i : ℕ) (d : T) → i < 256 → value (get_or t i d) ≡ tap (map value t) i
       at i d b = sym (get_or-map value t i d 0 (omega arith))
 
-  pub put_values : (t : List T) (l k : ℕ) (vs : List T) → map value (put_lane t l k vs) ≡ put_lane (map value t) l k (map value vs)
+  put_values : (t : List T) (l k : ℕ) (vs : List T) → map value (put_lane t l k vs) ≡ put_lane (map value t) l k (map value vs)
   put_values t l k [] = refl
   put_values t l k (v ∷ vs) = put_values (set t (16 * k + l) v) l (k + 1) vs ∙ ap (λ (u : List ℕ). put_lane u l (k + 1) (map value vs)) (map-set value t (16 * k + l) v)
 

@@ -110,7 +110,7 @@ pub fn each_lane_unchecked<T: Sample, R: Part<T>, F: Fn(Lane<T>, usize) -> R>(
     n: usize,
     filter: F,
 )
-    requires few { (n ≤ 16) × (length t.old ≡ 256) }
+    requires few { n ≤ 16 }
     requires callable { (l : ℕ) (a : Lane T) → l < n → values_of T.value a ≡ lane_of (map T.value t.old) l → F.pre filter a l }
     ensures long { length t.new ≡ 256 }
     ensures filtered { (line : ℕ → List ℕ → List ℕ) → Follows T.value R.first R.taps (F.post filter) n (map T.value t.old) line → EachLane n line (map T.value t.old) (map T.value t.new) }

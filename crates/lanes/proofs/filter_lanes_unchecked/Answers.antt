@@ -1,4 +1,4 @@
-use Rattle.std.proofs.Common.{◌≡◌, refl, sym, ◌∙◌, Bool, true, false, ℕ, List, arith, rules, of_calls}
+use Rattle.std.proofs.Common.{sym, ◌∙◌, rules, of_calls, arith}
 use Rattle.std.proofs.lemmas.List.{map-id}
 use Rattle.lane_filters.specs.Small.{Small}
 use Rattle.line.specs.SampleFiltering.{sample_filtering}
@@ -7,56 +7,38 @@ use Rattle.lanes.specs.Lanes.{lane_of}
 use Rattle.lanes.specs.LanesLaws.{lanes_fewer, none_kept, small_lane}
 use Rattle.lanes.proofs.filter_lanes_unchecked.Goals as goal
 
--- where the answer is true nothing is said of an answer false
-unasked : {A : Type 0} → ◌≡◌ {A = Bool} true false → A
-unasked e = let z : ◌≡◌ {A = ℕ} 0 1 = cc in absurd (omega arith)
-
 pub returns-then-not-any_mask : goal.returns-then-not-any_mask
 returns-then-not-any_mask c =
-    let any = c in
-    let whole = any in
-    let a = whole.args in
-    (none_kept a.n a.depth.bits a.strength.limit a.strength.blimit whole.whole-m.result a.size a.strength.thresh a.t.now whole.whole-m.ensures.0 (any.any_mask.ensures (c.if-not-any_mask.true)), λ e. refl)
+    let a = c.args in
+    (none_kept a.n a.f.depth.bits a.f.limit a.f.blimit c.whole-m.result a.size a.f.thresh a.t.now c.whole-m.ensures.0 (c.any_mask.ensures (c.if-not-any_mask.true)), λ e. cc)
 
 pub each_lane_unchecked-requires : goal.each_lane_unchecked-requires
 each_lane_unchecked-requires c =
-    let table = c.requires.1 in (
-      omega arith,
-      ((omega arith, table.long), λ l a h is. let s : Small a = small_lane c.args.t.now l a (omega arith) table is in search (rules, of_calls)),
-    )
+    (omega arith, (omega arith, λ l a h is. let s : Small a = small_lane c.args.t.now l a (omega arith) c.requires.1 is in search (rules, of_calls)))
 
 pub returns-then-size-eq0 : goal.returns-then-size-eq0
 returns-then-size-eq0 c =
     let a = c.args in
-    let f : ℕ → List ℕ → List ℕ = λ l. sample_filtering a.depth.bits 0 a.strength.limit a.strength.blimit a.strength.thresh in
-    let done = c.each_lane_unchecked.ensures.filtered f (record { each = λ l a r h is gives. search (rules, of_calls) }) in
-    (rw c.if-size-eq0.true (lanes_fewer c.whole-m.ensures.0 (rw (map-id, map-id) at done)), unasked)
+    let done = c.each_lane_unchecked.ensures.filtered (λ _. sample_filtering a.f.depth.bits 0 a.f.limit a.f.blimit a.f.thresh) (record { each = λ l a r h is gives. search (rules, of_calls) }) in
+    (rw c.if-size-eq0.true (lanes_fewer c.whole-m.ensures.0 (simp map-id at done)), λ e. cc)
 
 pub each_lane_unchecked-requires-then-size-eq1 : goal.each_lane_unchecked-requires-then-size-eq1
 each_lane_unchecked-requires-then-size-eq1 c =
-    let table = c.requires.1 in (
-      omega arith,
-      ((omega arith, table.long), λ l a h is. let s : Small a = small_lane c.args.t.now l a (omega arith) table is in search (rules, of_calls)),
-    )
+    (omega arith, (omega arith, λ l a h is. let s : Small a = small_lane c.args.t.now l a (omega arith) c.requires.1 is in search (rules, of_calls)))
 
 pub returns-then-size-eq1 : goal.returns-then-size-eq1
 returns-then-size-eq1 c =
     let a = c.args in
-    let f : ℕ → List ℕ → List ℕ = λ l. sample_filtering a.depth.bits 1 a.strength.limit a.strength.blimit a.strength.thresh in
-    let done = c.each_lane_unchecked-then-size-eq1.ensures.filtered f (record { each = λ l a r h is gives. search (rules, of_calls) }) in
-    (rw c.if-size-eq1.true (lanes_fewer c.whole-m.ensures.0 (rw (map-id, map-id) at done)), unasked)
+    let done = c.each_lane_unchecked-then-size-eq1.ensures.filtered (λ _. sample_filtering a.f.depth.bits 1 a.f.limit a.f.blimit a.f.thresh) (record { each = λ l a r h is gives. search (rules, of_calls) }) in
+    (rw c.if-size-eq1.true (lanes_fewer c.whole-m.ensures.0 (simp map-id at done)), λ e. cc)
 
 pub each_lane_unchecked-requires-2 : goal.each_lane_unchecked-requires-2
 each_lane_unchecked-requires-2 c =
-    let table = c.requires.1 in (
-      omega arith,
-      ((omega arith, table.long), λ l a h is. let s : Small a = small_lane c.args.t.now l a (omega arith) table is in search (rules, of_calls)),
-    )
+    (omega arith, (omega arith, λ l a h is. let s : Small a = small_lane c.args.t.now l a (omega arith) c.requires.1 is in search (rules, of_calls)))
 
 pub returns : goal.returns
 returns c =
     let a = c.args in
-    let f : ℕ → List ℕ → List ℕ = λ l. sample_filtering a.depth.bits 2 a.strength.limit a.strength.blimit a.strength.thresh in
-    let done = c.each_lane_unchecked-2.ensures.filtered f (record { each = λ l a r h is gives. search (rules, of_calls) }) in
-    let two = lanes_fewer c.whole-m.ensures.0 (rw (map-id, map-id) at done) in
-    (record { each = λ l b. two.each l b ∙ sym (filters_large a.depth.bits a.size a.strength.limit a.strength.blimit a.strength.thresh (lane_of a.t.now l) (omega arith)) }, unasked)
+    let done = c.each_lane_unchecked-2.ensures.filtered (λ _. sample_filtering a.f.depth.bits 2 a.f.limit a.f.blimit a.f.thresh) (record { each = λ l a r h is gives. search (rules, of_calls) }) in
+    let two = lanes_fewer c.whole-m.ensures.0 (simp map-id at done) in
+    (record { each = λ l b. two.each l b ∙ sym (filters_large a.f.depth.bits a.size a.f.limit a.f.blimit a.f.thresh (lane_of a.t.now l) (omega arith)) }, λ e. cc)

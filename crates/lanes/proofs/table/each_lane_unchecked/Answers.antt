@@ -5,7 +5,7 @@ use Rattle.lanes.specs.LanesLaws.{lanes_none, lane_values, lane_put, lane_rest, 
 use Rattle.lanes.proofs.table.each_lane_unchecked.Goals as goal
 
 pub loop-l-init : goal.loop-l-init
-loop-l-init g c = (c.requires.few.1, (λ k h b. refl), λ line follows. lanes_none (map g.T.Sample.value c.args.t.now))
+loop-l-init g c = (c.told-t, (λ k h b. refl), λ line follows. lanes_none (map g.T.Sample.value c.args.t.now))
 
 pub filter-r-requires : goal.filter-r-requires
 filter-r-requires g c =
