@@ -1,7 +1,7 @@
 // The line filter (8.8.5) on one lane of bytes, at depth 8.
 #![tactic(auto)]
 
-ghost use Rattle.std.specs.Prelude.{◌≡◌, cond, ◌%◌, ◌/◌, ◌≤◌, ◌<◌, eqb};
+ghost use Rattle.std.specs.Prelude.{◌≡◌, cond, ◌%◌, ◌/◌, eqb};
 ghost use Rattle.lane.specs.LaneSamples.{samples_of, four_of, six_of, fourteen_of, put_taps};
 ghost use Rattle.line.specs.Masks.{hev_mask};
 ghost use Rattle.line.specs.NarrowFilter.{narrow_filter};
@@ -30,6 +30,7 @@ pub enum Arm {
 }
 
 // The arm of a lane by its key, which is 64 times the filter size and the level: the size is no enum, since 8.8.2 computes with it.
+#[tactic(auto, unfolding(crate::specs::ByteArm::arm_of, strength::specs::Strength::strength_of))]
 pub fn lane_arm(a: Lane<u8>, key: Key, sharpness: Sharpness) -> Arm
     ensures { number_of result ≡ arm_of sharpness.level key.number (samples_of a) }
 {
@@ -43,8 +44,10 @@ pub fn lane_arm(a: Lane<u8>, key: Key, sharpness: Sharpness) -> Arm
     if on { some } else { Arm::None }
 }
 
-// A lane of each arm. Another lane stays as it is.
+// A lane of each arm. Another lane stays as it is. One function for each arm, since each answers the part of the lane that its filter
+// can change.
 
+// Any byte will do as the key, since its level alone is read.
 pub fn byte_four(a: Lane<u8>, key: u8, arm: Arm) -> Four<u8>
     ensures { put_taps (samples_of a) 6 (four_of result) ≡ cond (eqb (number_of arm) 1) (narrow_filter 8 (hev_mask (key % 64 / 16) (samples_of a)) (samples_of a)) (samples_of a) }
 {

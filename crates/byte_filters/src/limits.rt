@@ -27,6 +27,7 @@ fn top_of(sharpness: Sharpness) -> u8
     }
 }
 
+#[tactic(auto, using(crate::specs::TopLimit::limit_is, strength::specs::StrengthLaws::limit_small))]
 pub(crate) fn limit_of(level: Level, sharpness: Sharpness) -> u8
     ensures { (result ≡ limit_of level.number sharpness.level) × (result ≤ 63) }
 {

@@ -7,6 +7,7 @@ ghost use Rattle.lane_filters.specs.RaisedFilter.{raised_base, raised_filter, ra
 use lane::{Four, Lane};
 
 // Step 2, raised by 128: the outer taps count where the variance is high.
+#[tactic(auto, unfolding(lane_filters::specs::RaisedFilter::raised_base), using(crate::specs::SaturatingLaws::moved))]
 fn filter_base(p1: u8, q1: u8, hev: bool) -> u8
     ensures { result ≡ raised_base 1 hev p1 q1 }
 {
@@ -17,6 +18,7 @@ fn filter_base(p1: u8, q1: u8, hev: bool) -> u8
 }
 
 // Step 3, raised by 128.
+#[tactic(auto, unfolding(lane_filters::specs::RaisedFilter::raised_filter), using(crate::specs::SaturatingLaws::moved_thrice))]
 fn filter_value(base: u8, p0: u8, q0: u8) -> u8
     ensures { result ≡ raised_filter 1 base p0 q0 }
 {
@@ -33,6 +35,7 @@ fn filter_value(base: u8, p0: u8, q0: u8) -> u8
 }
 
 // c( filter + n ) >> 3, raised by 16.
+#[tactic(auto, unfolding(lane_filters::specs::RaisedFilter::raised_eighth))]
 fn eighth(filter: u8, n: u8) -> u8
     ensures { (result ≡ raised_eighth 1 filter n) × (result < 32) }
 {
@@ -49,6 +52,7 @@ fn rounded_half(filter: u8) -> u8
 
 // A sample with a value that is raised by k added, or taken away.
 
+#[tactic(auto, unfolding(lane_filters::specs::RaisedFilter::increased), using(crate::specs::SaturatingLaws::moved))]
 fn increased(x: u8, value: u8, k: u8) -> u8
     ensures { result ≡ increased 1 x value k }
 {
@@ -56,6 +60,7 @@ fn increased(x: u8, value: u8, k: u8) -> u8
         .saturating_sub(k.saturating_sub(value))
 }
 
+#[tactic(auto, unfolding(lane_filters::specs::RaisedFilter::decreased), using(crate::specs::SaturatingLaws::moved))]
 fn decreased(x: u8, value: u8, k: u8) -> u8
     ensures { result ≡ decreased 1 x value k }
 {
@@ -63,6 +68,7 @@ fn decreased(x: u8, value: u8, k: u8) -> u8
         .saturating_sub(value.saturating_sub(k))
 }
 
+#[tactic(auto, using(lane_filters::specs::RaisedFilterLaws::narrow_bytes))]
 pub(crate) fn narrow_filter(a: Lane<u8>, hev: bool) -> Four<u8>
     ensures { put_taps (samples_of a) 6 (four_of result) ≡ narrow_filter 8 hev (samples_of a) }
 {

@@ -1,7 +1,0 @@
-use Rattle.std.proofs.Common.{arith}
-use Rattle.lane_filters.specs.RaisedFilter.{raised_eighth}
-use Rattle.byte_filters.proofs.narrow.eighth.Goals as goal
-
-pub returns : goal.returns
-unfolding raised_eighth
-returns c = (rw c.saturating_add.ensures, omega arith)
