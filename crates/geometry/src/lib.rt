@@ -8,7 +8,7 @@ ghost use Rattle.geometry.specs.Coordinates.{shl, shr};
 pub mod pass_numbers;
 
 // Pass 0 filters across vertical edges, pass 1 across horizontal ones.
-#[derive(Clone, Copy)]
+#[derive(Clone, Copy, Debug, PartialEq, Eq)]
 pub enum Pass {
     Vertical,
     Horizontal,
@@ -42,6 +42,8 @@ pub fn shl_unchecked(n: usize, sub: bool) -> usize
 {
     n << u32::from(sub)
 }
+
+// Both coordinates are tuples of any number, as document 01 names them, so a bound such as x.0 < 65792 stays a clause.
 
 // A coordinate in luma samples, which the edge tests take.
 #[derive(Clone, Copy)]

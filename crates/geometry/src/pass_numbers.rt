@@ -1,6 +1,8 @@
 // The numbers of a pass, which travel together.
 
-// The frame's, the superblock's, and which plane and pass. Plain numbers, laid out for C: any are taken, and a pass tests them.
+// Plain numbers, any of which is taken and tested, since they cross from C.
+//
+// The frame's, the superblock's, and which plane and pass.
 #[repr(C)]
 #[derive(Clone, Copy)]
 pub struct PassNumbers {
