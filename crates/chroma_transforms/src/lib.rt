@@ -15,15 +15,22 @@ const BLOCK_INVALID: u8 = 14;
 
 const MAX_TXSIZE_LOOKUP: [u8; 13] = [0, 0, 0, 1, 1, 1, 2, 2, 2, 3, 3, 3, 3];
 
-// ss_size_lookup, a list for each pair of subX and subY.
-
-const SS_SIZE_LOOKUP_0_0: [u8; 13] = [0, 1, 2, 3, 4, 5, 6, 7, 8, 9, 10, 11, 12];
-
-const SS_SIZE_LOOKUP_0_1: [u8; 13] = [14, 0, 14, 2, 3, 14, 5, 6, 14, 8, 9, 14, 11];
-
-const SS_SIZE_LOOKUP_1_0: [u8; 13] = [14, 14, 0, 1, 14, 3, 4, 14, 6, 7, 14, 9, 10];
-
-const SS_SIZE_LOOKUP_1_1: [u8; 13] = [14, 14, 14, 0, 1, 2, 3, 4, 5, 6, 7, 8, 9];
+// ss_size_lookup[ size ][ subX ][ subY ].
+const SS_SIZE_LOOKUP: [[[u8; 2]; 2]; 13] = [
+    [[0, 14], [14, 14]],
+    [[1, 0], [14, 14]],
+    [[2, 14], [0, 14]],
+    [[3, 2], [1, 0]],
+    [[4, 3], [14, 1]],
+    [[5, 14], [3, 2]],
+    [[6, 5], [4, 3]],
+    [[7, 6], [14, 4]],
+    [[8, 14], [6, 5]],
+    [[9, 8], [7, 6]],
+    [[10, 9], [14, 7]],
+    [[11, 14], [9, 8]],
+    [[12, 11], [10, 9]],
+];
 
 #[tactic(auto, unfolding(crate::specs::ChromaTransforms::max_tx_size))]
 fn max_tx_size(size: BlockSize) -> u8
@@ -32,17 +39,11 @@ fn max_tx_size(size: BlockSize) -> u8
     MAX_TXSIZE_LOOKUP[usize::from(size.number)]
 }
 
-#[tactic(auto, unfolding(crate::specs::ChromaTransforms::ss_size, base::specs::First::found, base::specs::First::first_from))]
+#[tactic(auto, using(crate::specs::ChromaTransformsLaws::ss_size_listed))]
 fn ss_size(size: BlockSize, subx: bool, suby: bool) -> u8
     ensures { result ≡ ss_size size.number subx suby }
 {
-    let at = usize::from(size.number);
-    match (subx, suby) {
-        (false, false) => SS_SIZE_LOOKUP_0_0[at],
-        (false, true) => SS_SIZE_LOOKUP_0_1[at],
-        (true, false) => SS_SIZE_LOOKUP_1_0[at],
-        (true, true) => SS_SIZE_LOOKUP_1_1[at],
-    }
+    SS_SIZE_LOOKUP[usize::from(size.number)][usize::from(subx)][usize::from(suby)]
 }
 
 #[tactic(auto, unfolding(crate::specs::ChromaTransforms::uv_limit), using(crate::specs::ChromaTransformsLaws::ss_size_lem))]
@@ -63,5 +64,9 @@ fn uv_limit(subx: bool, suby: bool, mi_size: BlockSize) -> u8
 pub fn uv_limit_table(subx: bool, suby: bool) -> [u8; 13]
     ensures { result ≡ by_size (uv_limit subx suby) }
 {
-    array::from_fn(move |size| uv_limit(subx, suby, BlockSize { number: size as u8 }))
+    array::from_fn(
+        move |size|
+            requires { size ≤ 12 }
+        { uv_limit(subx, suby, BlockSize { number: size as u8 }) },
+    )
 }
