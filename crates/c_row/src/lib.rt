@@ -60,5 +60,5 @@ pub fn springspade_row(
 pub fn springspade_cell(word: u32) -> LfCell
     ensures { result ≡ cell_of word }
 {
-    LfCell::unpack(word)
+    LfCell::from(word)
 }

@@ -91,5 +91,5 @@ impl From<LfCell> for CellRecord {
 pub fn record_of(word: u32) -> CellRecord
     ensures { result ≡ record_of word }
 {
-    CellRecord::from(LfCell::unpack(word))
+    CellRecord::from(LfCell::from(word))
 }

@@ -4,7 +4,9 @@
 ghost use Rattle.std.specs.Prelude.{◌≡◌};
 ghost use Rattle.cells.specs.Cell.{packed, cell_of, Fields};
 
-// What the pass reads of a cell. A flag and a level and no Option, since C reads the record as it stands.
+// A flag and a level and no Option, since C reads the record as it stands.
+//
+// What the pass reads of a cell.
 #[repr(C)]
 #[derive(Clone, Copy)]
 pub struct LfCell {
@@ -28,12 +30,12 @@ pub struct LfCell {
     pub level: u8,
 }
 
-impl LfCell {
-    // Takes any word, also one that no block makes.
+// The fields of any word, also of one that no block makes.
+impl From<u32> for LfCell {
+    ghost from_gives = { λ word c. c ≡ cell_of word };
+
     #[tactic(auto, unfolding(crate::specs::Cell::cell_of))]
-    pub fn unpack(word: u32) -> Self
-        ensures { result ≡ cell_of word }
-    {
+    fn from(word: u32) -> Self {
         LfCell {
             width0: (word / 1073741824 % 4) as u8,
             width1: (word / 268435456 % 4) as u8,
@@ -54,9 +56,9 @@ pub fn pack_unchecked(c: LfCell) -> u32
     requires { Fields c }
     ensures { result ≡ packed c }
 {
-    let width = c.width0 as u32 * 4 + c.width1 as u32;
-    let shape = (width * 4 + c.height0 as u32) * 4 + c.height1 as u32;
-    let transforms = (shape * 4 + c.tx as u32) * 4 + c.uvtx as u32;
+    let width = u32::from(c.width0) * 4 + u32::from(c.width1);
+    let shape = (width * 4 + u32::from(c.height0)) * 4 + u32::from(c.height1);
+    let transforms = (shape * 4 + u32::from(c.tx)) * 4 + u32::from(c.uvtx);
     let flags = (transforms * 2 + u32::from(c.skipped)) * 2 + u32::from(c.present);
-    (flags * 64 + c.level as u32) * 4096
+    (flags * 64 + u32::from(c.level)) * 4096
 }

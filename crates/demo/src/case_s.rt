@@ -45,7 +45,7 @@ pub(crate) fn made_row() -> Result<[u32; 2], Fault> {
 }
 
 fn print_cell(rt: &impl Print, index: usize, word: u32) -> Result<()> {
-    let cell = LfCell::unpack(word);
+    let cell = LfCell::from(word);
     println!(rt;
         "cell {index}, word {word:08x}: width {} {}, height {} {}, transform {}, chroma transform {}, skipped {}, level {}",
         cell.width0,
