@@ -16,7 +16,8 @@ pub fn bad_word(word: u32) -> bool
     (word % 4096 != 0) | (word / 262144 % 2 != 1) & (word / 4096 % 64 != 0)
 }
 
-// Whether one of the first words of a list is bad. The fold has no branch, which vectorises.
+// Whether one of the first words of a list is bad. The fold has no branch, which vectorises. Here and below over the places: a Words
+// lends its count and its words, and is no iterator.
 fn any_bad_word<C: Words>(cells: C, count: usize) -> bool
     requires { count ≤ length (C.words cells) }
     ensures { result ≡ fold (λ any k. any || bad_cell (C.words cells) k) false (range_with_len 0 count) }
@@ -33,7 +34,8 @@ fn first_bad<C: Words>(cells: C, count: usize) -> Option<usize>
     (0..count).position(|k| bad_word(cells.word_unchecked(k)))
 }
 
-// The first that is bad, if one is. Mostly none is, so a place is looked for only after a hit.
+// The first that is bad, if one is. Mostly none is, so a place is looked for only after a hit. Not by base::search::first_place: where the
+// closure holds a value of a type parameter, the module that the check makes for the call's ghost value is refused.
 pub fn first_bad_word_unchecked<C: Words>(cells: C, count: usize) -> Option<usize>
     requires { count ≤ length (C.words cells) }
     ensures { result ≡ first_found (bad_cell (C.words cells)) count }

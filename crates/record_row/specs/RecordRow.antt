@@ -4,7 +4,7 @@ use Rattle.std.specs.Prelude.{List, ℕ, zero, suc, min, length, get_or, set, re
 use Rattle.base.specs.Outcome.{Outcome, accepted, refused}
 use Rattle.geometry.specs.Frame.{cells_from}
 use Rattle.row.specs.Row.{ModeInfo, row}
-use Rattle.row.specs.declared.RowNumbers.{RowNumbers}
+use Rattle.row.specs.declared.numbers.RowNumbers.{RowNumbers}
 use Rattle.cell_records.specs.CellRecord.{record_of}
 use Rattle.cell_records.specs.declared.CellRecord.{CellRecord}
 

@@ -17,7 +17,7 @@ use Rattle.cell_records.specs.declared.CellRecord.{CellRecord}
 use Rattle.row.specs.Row.{ModeInfo, word_at, bad_level, too_short, bad_at, row}
 use Rattle.row.specs.RowLaws.{long, row_filled}
 use Rattle.record_row.specs.RecordRow.{stored, row_with, cells_in, as_records}
-use Rattle.row.specs.declared.RowNumbers.{RowNumbers}
+use Rattle.row.specs.declared.numbers.RowNumbers.{RowNumbers}
 
 -- ---- stored records
 -- no step changes how many there are

@@ -6,7 +6,7 @@ use Rattle.base.specs.Outcome.{Answers, Returned}
 use Rattle.base.specs.declared.fault.Fault.{Fault}
 use Rattle.cell_records.specs.declared.CellRecord.{CellRecord}
 use Rattle.row.specs.Row.{ModeInfo}
-use Rattle.row.specs.declared.RowNumbers.{RowNumbers}
+use Rattle.row.specs.declared.numbers.RowNumbers.{RowNumbers}
 use Rattle.record_row.specs.RecordRow.{stored, row_with, cells_in, as_records, zeros, row_records}
 use Rattle.record_row.specs.RecordRowLaws.{accepted_as, kept, passed_row, replaced, lent_words}
 use Rattle.record_row.proofs.row_records.Goals as goal

@@ -3,7 +3,7 @@ use Rattle.base.specs.Outcome.{Outcome, accepted, refused, returned}
 use Rattle.c_border.specs.BorderLaws.{crossed_as}
 use Rattle.cell_records.specs.declared.CellRecord.{CellRecord}
 use Rattle.record_row.specs.RecordRow.{row_with, cells_in, as_records, zeros, row_records}
-use Rattle.row.specs.declared.RowNumbers.{RowNumbers}
+use Rattle.row.specs.declared.numbers.RowNumbers.{RowNumbers}
 use Rattle.row.specs.Row.{ModeInfo, mode_info}
 use Rattle.row.specs.RowLaws.{row_place}
 use Rattle.c_records.proofs.rows.springspade_row_records.Goals as goal
