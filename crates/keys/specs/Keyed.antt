@@ -8,7 +8,7 @@ pub record Keyed (outer inner : List ℕ) : Type 0 where
   pub odd : (k : ℕ) → k < 64 → get_or inner k 0 < 192
 
 -- the keys of the 8 cells along an edge: the outer edges have the even numbers
-pub keys_along : (outer inner : List ℕ) (edge : ℕ) → List ℕ
+unfoldable pub keys_along : (outer inner : List ℕ) (edge : ℕ) → List ℕ
 keys_along outer inner edge = let at = 8 * (edge / 2) in slice_range (cond (eqb (edge % 2) 0) outer inner) at (at + 8)
 
 -- the key of cell c along an edge: the outer edges have the even numbers

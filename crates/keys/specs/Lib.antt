@@ -1,4 +1,5 @@
 pub mod Keyed
+pub mod KeyedLaws
 pub mod Keys
 pub mod PlainKeys
 pub mod PlainKeysLaws

@@ -15,6 +15,7 @@ pub struct Keys {
 
 impl Keys {
     // The keys of the 8 cells along an edge. The outer edges have the even numbers.
+    #[tactic(auto, unfolding(crate::specs::Keyed::keys_along))]
     pub fn of_edge_unchecked(&self, edge: usize) -> &[u8]
         requires { edge < 16 }
         ensures { result.now ≡ keys_along self.now.outer self.now.inner edge }
@@ -29,7 +30,7 @@ impl Keys {
     }
 
     // The key of cell c along an edge.
-    #[tactic(auto, unfolding(crate::specs::Keyed::key_for))]
+    #[tactic(auto, using(crate::specs::KeyedLaws::along_key, crate::specs::KeyedLaws::along_length, crate::specs::KeyedLaws::key_small))]
     pub fn key_at_unchecked(&self, edge: usize, c: usize) -> Key
         requires { (edge < 16) × (c < 8) }
         ensures { result.number ≡ key_for self.now.outer self.now.inner edge c }
