@@ -32,6 +32,7 @@ pub fn no_run() -> SmallRun
 }
 
 // The positions of one cell along an edge, as a run by themselves.
+#[tactic(auto, unfolding(crate::specs::KeyRuns::key_run), using(crate::proofs::KeyRunLaws::run_small))]
 pub fn key_run_unchecked(s: Superblock, pass: Pass, key: Key, edge: usize, c: usize) -> SmallRun
     requires { (edge < edge_count s pass) × (c < 8) }
     ensures { result.of ≡ key_run s pass key.number edge c }

@@ -11,23 +11,23 @@ pub overflow_add-self : goal.overflow_add-self
 overflow_add-self c =
     let w = c.loop-self.self in omega (arith, c.loop-self.invariant.0.all, c.loop-self-test.true, edge_count_small w.s w.pass)
 
-pub returns-then-key-ne0-clause-steps : goal.returns-then-key-ne0-clause-steps
-returns-then-key-ne0-clause-steps c =
+pub returns-then-level-ne0-clause-steps : goal.returns-then-level-ne0-clause-steps
+returns-then-level-ne0-clause-steps c =
     let w = c.loop-self.self in (
       sym c.loop-self.invariant.1
-          ∙ cells_on w.s w.pass w.keys.now.outer w.keys.now.inner c.key_at_unchecked-key.ensures.0 c.loop-self-test.true (omega (arith, c.if-key-ne0.true)) c.key_run_unchecked.ensures,
+          ∙ cells_on w.s w.pass w.keys.now.outer w.keys.now.inner c.key_at_unchecked-key.ensures c.loop-self-test.true (omega (arith, c.level.ensures, c.if-level-ne0.true)) c.key_run_unchecked.ensures,
       record { all = c.loop-self.invariant.0.all; within = omega (arith, c.loop-self-test.true) },
     )
 
-pub returns-then-key-ne0-clause-goes : goal.returns-then-key-ne0-clause-goes
-returns-then-key-ne0-clause-goes c =
-    let shorter = ap length (returns-then-key-ne0-clause-steps c).0 in search rules
+pub returns-then-level-ne0-clause-goes : goal.returns-then-level-ne0-clause-goes
+returns-then-level-ne0-clause-goes c =
+    let shorter = ap length (returns-then-level-ne0-clause-steps c).0 in search rules
 
 pub loop-self-preserved : goal.loop-self-preserved
 loop-self-preserved c =
     let w = c.loop-self.self in (
       record { all = c.loop-self.invariant.0.all; within = omega (arith, c.loop-self-test.true) },
-      sym (cells_off w.s w.pass w.keys.now.outer w.keys.now.inner c.key_at_unchecked-key.ensures.0 c.loop-self-test.true c.if-key-ne0.false) ∙ c.loop-self.invariant.1,
+      sym (cells_off w.s w.pass w.keys.now.outer w.keys.now.inner c.key_at_unchecked-key.ensures c.loop-self-test.true (sym c.level.ensures ∙ c.if-level-ne0.false)) ∙ c.loop-self.invariant.1,
     )
 
 pub returns-clause-steps : goal.returns-clause-steps
