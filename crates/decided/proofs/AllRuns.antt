@@ -1,4 +1,4 @@
--- The cells of a pass that filter, joined behind a run of level 0, are its runs (`all_runs`), at most 128 (`few_runs`).
+-- The cells of a pass that filter, joined, are its runs (`all_runs`), at most 128 (`few_runs`).
 -- Assumes nothing.
 use Rattle.std.specs.Prelude.{◌≡◌, refl, ℕ, zero, suc, ◌+◌, ◌*◌, ◌/◌, ◌%◌, ◌≤◌, List, ◌∷◌, ◌++◌, length}
 use Rattle.std.proofs.Common.{sym, ap, ◌∙◌, arith}
@@ -11,9 +11,8 @@ use Rattle.pass_edges.specs.PassEdgesLaws.{edge_count_small}
 use Rattle.decided.specs.CellsLeft.{nth_cell, cells_in}
 use Rattle.decided.specs.JoinLaws.{joined_length}
 use Rattle.decided.specs.KeyRuns.{key_cell, key_runs}
-use Rattle.decided.specs.Runs.{joined, joined_from, run_filters}
+use Rattle.decided.specs.Runs.{joined, run_filters}
 use Rattle.decided.specs.declared.EdgeRun.{EdgeRun}
-use Rattle.decided.proofs.KeptLaws.{silent}
 use Rattle.decided.proofs.KeyRunLaws.{kept_keys}
 
 module _ (s : Superblock) (pass : Pass) (outer inner : List ℕ) where
@@ -35,12 +34,10 @@ module _ (s : Superblock) (pass : Pass) (outer inner : List ℕ) where
       (λ i. edge_strip edge 0 8 k (omega arith) (omega arith) i ++ edge_strips (suc edge) n (k + 8) (omega arith) i)
       ∙ sym (rw more (strip_split (nth_cell s pass outer inner) 0 k 8 (8 * n) (k + 8) refl))
 
-  pub all_runs : (a : EdgeRun) → a.level ≡ 0 → {l : List EdgeRun} → l ≡ cells_in s pass outer inner 0 (8 * edge_count s pass)
-      → select run_filters (joined_from a l) ≡ key_runs s pass outer inner
+  pub all_runs : (l : List EdgeRun) → l ≡ cells_in s pass outer inner 0 (8 * edge_count s pass) → select run_filters (joined l) ≡ key_runs s pass outer inner
   unfolding cells_in key_runs
-  all_runs a e {l} is =
-      ap (λ (m : List EdgeRun). select run_filters (joined_from a m)) (is ∙ ap (select run_filters) (sym (edge_strips 0 (edge_count s pass) 0 refl)))
-      ∙ silent a _ e
+  all_runs l is =
+      ap (λ (m : List EdgeRun). select run_filters (joined m)) (is ∙ ap (select run_filters) (sym (edge_strips 0 (edge_count s pass) 0 refl)))
       ∙ kept_keys s pass outer inner
 
   pub few_runs : length (key_runs s pass outer inner) ≤ 128

@@ -49,6 +49,6 @@ pub record Walking (w : KeyCells) : Type 0 where
   pub all : w.count ≡ 8 * edge_count w.s w.pass
   pub within : w.at ≤ w.count
 
--- behind the last cell, too, the walk may go on
+-- a cell that is given filters; behind the last, too, the walk may go on
 abbrev pub GivesCell : KeyCells → Option SmallRun → KeyCells → Type 0
-GivesCell w r v = YieldsFirstBy (λ a. a.of) cells_left w r v × Walking v
+GivesCell w r v = YieldsFirstBy (λ a. a.of) cells_left w r v × Walking v × IfSome r (λ a. 0 < a.of.level)

@@ -1,43 +1,47 @@
 -- The runs of a pass, one after the other: which are still to come, while one is pending.
 -- Assumes nothing.
-use Rattle.std.specs.Prelude.{◌≡◌, refl, true, false, ◌<◌, ◌≤◌, List, [], ◌∷◌, Option, IfSome}
-use Rattle.std.proofs.Common.{lt-ltb, le-ltb}
+use Rattle.std.specs.Prelude.{◌≡◌, refl, true, false, ◌<◌, List, [], ◌∷◌, Option, Some, None, IfSome}
+use Rattle.std.proofs.Common.{lt-ltb}
 use Rattle.std.specs.Iterator.{YieldsFirstBy}
 use Rattle.order.specs.Grid.{select}
 use Rattle.decided.specs.CellsLeft.{cells_left}
-use Rattle.decided.specs.Runs.{joins, joined_from, longer, run_filters}
+use Rattle.decided.specs.Runs.{joins, joined, joined_from, longer, run_filters}
 use Rattle.decided.specs.declared.EdgeRun.{EdgeRun}
-use Rattle.decided.specs.declared.key_cells.KeyCells.{KeyCells}
 use Rattle.decided.specs.declared.pass_runs.PassRuns.{PassRuns}
 use Rattle.decided.specs.declared.small_run.SmallRun.{SmallRun}
 
+-- the pending run, if there is one, and runs behind it, joined
+unfoldable pub joined_on : Option SmallRun → List EdgeRun → List EdgeRun
+joined_on None l = joined l
+joined_on (Some a) l = joined_from a.of l
+
 -- the pending run and the cells that were not walked, joined
 unfoldable pub runs_left : PassRuns → List EdgeRun
-runs_left w = select run_filters (joined_from w.pending.of (cells_left w.cells))
+runs_left w = select run_filters (joined_on w.pending (cells_left w.cells))
 
 -- a run that is given filters
 abbrev pub GivesRun : PassRuns → Option SmallRun → PassRuns → Type 0
 GivesRun w r v = YieldsFirstBy (λ a. a.of) runs_left w r v × IfSome r (λ a. 0 < a.of.level)
 
--- behind the last cell the pending run is left, if it filters
-pub runs_last : (w : PassRuns) → cells_left w.cells ≡ [] → 0 < w.pending.of.level → runs_left w ≡ w.pending.of ∷ []
-unfolding runs_left joined_from
-runs_last w none on = rw (none, lt-ltb 0 w.pending.of.level on) refl
+-- behind the last cell the pending run is left
+pub runs_none : (w : PassRuns) → cells_left w.cells ≡ [] → w.pending ≡ None → runs_left w ≡ []
+unfolding runs_left joined_on
+runs_none w end none = rw (end, none) refl
 
-pub runs_none : (w : PassRuns) → cells_left w.cells ≡ [] → w.pending.of.level ≤ 0 → runs_left w ≡ []
-unfolding runs_left joined_from
-runs_none w none off = rw (none, le-ltb 0 w.pending.of.level off) refl
+pub runs_last : (w : PassRuns) (a : SmallRun) → cells_left w.cells ≡ [] → w.pending ≡ Some a → 0 < a.of.level → runs_left w ≡ a.of ∷ []
+unfolding runs_left joined_on joined_from
+runs_last w a end some on = rw (end, some, lt-ltb 0 a.of.level on) refl
 
--- the next cell b joins the pending run, or closes it
-module _ (w : PassRuns) (b : SmallRun) (v : KeyCells) (next : cells_left w.cells ≡ b.of ∷ cells_left v) where
-  pub runs_join : (a : SmallRun) → joins w.pending.of b.of ≡ true → a.of ≡ longer w.pending.of b.of.count → runs_left w ≡ runs_left (record { cells = v; pending = a })
-  unfolding runs_left joined_from
-  runs_join a on is = rw (next, on, is) refl
+-- the next cell b is the pending run if there is none, and else joins it or closes it
+module _ (w v : PassRuns) (b : SmallRun) (next : cells_left w.cells ≡ b.of ∷ cells_left v.cells) where
+  pub runs_start : w.pending ≡ None → v.pending ≡ Some b → runs_left w ≡ runs_left v
+  unfolding runs_left joined_on
+  runs_start none new = rw (next, none, new) refl
 
-  pub runs_close : joins w.pending.of b.of ≡ false → 0 < w.pending.of.level → runs_left w ≡ w.pending.of ∷ runs_left (record { cells = v; pending = b })
-  unfolding runs_left joined_from
-  runs_close off on = rw (next, off, lt-ltb 0 w.pending.of.level on) refl
+  pub runs_join : (a c : SmallRun) → w.pending ≡ Some a → v.pending ≡ Some c → joins a.of b.of ≡ true → c.of ≡ longer a.of b.of.count → runs_left w ≡ runs_left v
+  unfolding runs_left joined_on joined_from
+  runs_join a c old new on is = rw (next, old, new, on, is) refl
 
-  pub runs_drop : joins w.pending.of b.of ≡ false → w.pending.of.level ≤ 0 → runs_left w ≡ runs_left (record { cells = v; pending = b })
-  unfolding runs_left joined_from
-  runs_drop off level = rw (next, off, le-ltb 0 w.pending.of.level level) refl
+  pub runs_close : (a : SmallRun) → w.pending ≡ Some a → v.pending ≡ Some b → joins a.of b.of ≡ false → 0 < a.of.level → runs_left w ≡ a.of ∷ runs_left v
+  unfolding runs_left joined_on joined_from
+  runs_close a old new off on = rw (next, old, new, off, lt-ltb 0 a.of.level on) refl

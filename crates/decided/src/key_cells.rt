@@ -48,7 +48,7 @@ impl<'a> Iterator for KeyCells<'a> {
 
     // Level 0 filters nothing. The place is counted by hand, since it is what the iterator keeps from call to call.
     #[inline(always)]
-    #[tactic(auto, using(pass_edges::specs::PassEdgesLaws::edge_count_small, crate::specs::CellsLeft::cells_end, crate::specs::CellsLeft::cells_off, crate::specs::CellsLeft::cells_on))]
+    #[tactic(auto, unfolding(crate::specs::KeyRuns::key_run), using(pass_edges::specs::PassEdgesLaws::edge_count_small, crate::specs::CellsLeft::cells_end, crate::specs::CellsLeft::cells_off, crate::specs::CellsLeft::cells_on))]
     fn next(&mut self) -> Option<SmallRun> {
         while self.at < self.count {
             let edge = self.at / 8;

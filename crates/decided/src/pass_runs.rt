@@ -1,30 +1,32 @@
 // The runs of a pass by its keys, each given once no later cell can join it.
-ghost use Rattle.std.specs.Prelude.{◌≡◌};
+ghost use Rattle.std.specs.Prelude.{◌≡◌, ◌<◌};
+ghost use Rattle.std.specs.Option.{ForSome};
 ghost use Rattle.decided.specs.KeyRuns.{key_runs};
 
 use crate::key_cells::KeyCells;
-use crate::small_run::{SmallRun, no_run};
+use crate::small_run::SmallRun;
 use geometry::{Pass, Superblock};
 use keys::Keys;
-use std::mem::replace;
 
 #[derive(Drop)]
 pub struct PassRuns<'a> {
     cells: KeyCells<'a>,
     // The run that may still grow.
-    pending: SmallRun,
+    pending: Option<SmallRun>,
+    ghost filters: { ForSome pending (λ a. 0 < a.of.level) },
 }
 
 impl<'a> PassRuns<'a> {
     ghost use Rattle.decided.specs.CellsLeft.{Walking};
     ghost use Rattle.decided.specs.RunsLeft.{runs_left};
 
+    #[tactic(auto, unfolding(crate::specs::RunsLeft::runs_left, crate::specs::RunsLeft::joined_on), using(crate::proofs::AllRuns::all_runs))]
     pub fn new(s: Superblock, pass: Pass, keys: &'a Keys) -> PassRuns<'a>
         ensures { Walking result.cells × (runs_left result ≡ key_runs s pass keys.now.outer keys.now.inner) }
     {
         PassRuns {
             cells: KeyCells::new(s, pass, keys),
-            pending: no_run(),
+            pending: None,
         }
     }
 }
@@ -44,18 +46,20 @@ impl<'a> Iterator for PassRuns<'a> {
 
     // Nothing is pending before the first cell and behind the last.
     #[inline(always)]
+    #[tactic(auto, using(crate::specs::JoinLaws::joins_true, crate::specs::RunsLeft::runs_start, crate::specs::RunsLeft::runs_join, crate::specs::RunsLeft::runs_close, crate::specs::RunsLeft::runs_last, crate::specs::RunsLeft::runs_none))]
     fn next(&mut self) -> Option<SmallRun> {
         while let Some(cell) = self.cells.next() {
-            if self.pending.joins(cell) {
-                self.pending = self.pending.longer_unchecked(cell.of.count);
-            } else {
-                let closed = replace(&mut self.pending, cell);
-                if 0 < closed.of.level {
-                    return Some(closed);
+            match self.pending {
+                Some(run) if run.joins(cell) => {
+                    self.pending = Some(run.longer_unchecked(cell.of.count));
+                }
+                _ => {
+                    if let Some(closed) = self.pending.replace(cell) {
+                        return Some(closed);
+                    }
                 }
             }
         }
-        let last = replace(&mut self.pending, no_run());
-        if 0 < last.of.level { Some(last) } else { None }
+        self.pending.take()
     }
 }

@@ -16,21 +16,6 @@ pub struct SmallRun {
     pub ghost small: { Small of },
 }
 
-// The run that stands before the first cell: it filters nothing, and joins with none that does.
-pub fn no_run() -> SmallRun
-    ensures { result.of.level ≡ 0 }
-{
-    SmallRun {
-        of: EdgeRun {
-            edge: 0,
-            first: 0,
-            count: 0,
-            size: 0,
-            level: 0,
-        },
-    }
-}
-
 // The positions of one cell along an edge, as a run by themselves.
 #[tactic(auto, unfolding(crate::specs::KeyRuns::key_run), using(crate::proofs::KeyRunLaws::run_small))]
 pub fn key_run_unchecked(s: Superblock, pass: Pass, key: Key, edge: usize, c: usize) -> SmallRun
