@@ -106,6 +106,10 @@ key_by n log tx words k = key_of (plain_in n log tx words k)
 unfoldable pub lack_by : (outer inner : EdgeLimits) (log tx : ℕ) (words : List ℕ) (k : ℕ) → Bool
 lack_by n m log tx words k = without_level (plain_in n log tx words k) || without_level (plain_in m log tx words k)
 
+-- of the cells from place s on
+unfoldable pub lack_from : (outer inner : EdgeLimits) (log tx : ℕ) (words : List ℕ) (s c : ℕ) → Bool
+lack_from n m log tx words s c = lack_by n m log tx words (s + c)
+
 abbrev pub limits_in : Turned → (parity k : ℕ) → EdgeLimits
 limits_in t parity k = limits_of t (2 * (k / 8) + parity)
 

@@ -41,6 +41,7 @@ fn base_of(t: SmallTurned, e: usize) -> usize
 }
 
 // Fetches the words of edge pair e. The loop has no branch.
+#[tactic(auto, using(crate::specs::PlainKeysLaws::started, crate::specs::PlainKeysLaws::word_more))]
 fn fetch_pair<C: Words>(words: &mut [u32; 64], cells: C, t: SmallTurned, e: usize)
     requires { (e < pairs t.of.sub) × (0 < length (C.words cells)) }
     ensures { words.new ≡ filled (word_from (base_of t.of e) t.of.paired t.of.along (C.words cells)) (8 * e) 8 words.old }
@@ -54,6 +55,7 @@ fn fetch_pair<C: Words>(words: &mut [u32; 64], cells: C, t: SmallTurned, e: usiz
     }
 }
 
+#[tactic(auto, using(crate::specs::PlainKeysLaws::started, crate::specs::PlainKeysLaws::more_words))]
 pub(crate) fn fetch<C: Words>(words: &mut [u32; 64], cells: C, t: SmallTurned)
     requires { 0 < length (C.words cells) }
     ensures { words.new ≡ fetched t.of (C.words cells) words.old }

@@ -39,6 +39,7 @@ fn cell_place(paired: bool, k: usize) -> usize
 }
 
 // The positions of a cell have one decision, so the first of the first such cell is the place.
+#[tactic(auto, using(base::specs::First::place_found, base::specs::First::first_is))]
 pub(crate) fn lacking_place(words: &[u32; 64], t: SmallTurned) -> Option<usize>
     ensures { result ≡ place_by t.of words.now }
 {

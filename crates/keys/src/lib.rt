@@ -6,7 +6,7 @@ ghost use Rattle.base.specs.Filled.{filled};
 ghost use Rattle.base.specs.First.{found};
 ghost use Rattle.geometry.specs.Frame.{cells_from};
 ghost use Rattle.keys.specs.Keys.{Told};
-ghost use Rattle.keys.specs.PlainKeys.{turned_of, limits_of, pairs, key_by, lack_by, plain_key, plain_lack, PlainTold};
+ghost use Rattle.keys.specs.PlainKeys.{turned_of, limits_of, pairs, key_by, lack_from, plain_key, plain_lack, PlainTold};
 
 mod edge_keys;
 mod edge_limits;
@@ -24,6 +24,7 @@ use turned::{SmallTurned, pair_count, turned_of};
 use word_bytes::Words;
 
 // Stores the keys of edge pair e. The loop has no branch, which vectorises.
+#[tactic(auto, using(crate::specs::PlainKeysLaws::started, crate::specs::PlainKeysLaws::key_more, crate::specs::PlainKeysLaws::lack_more))]
 fn put_pair(
     outer: &mut [u8; 64],
     inner: &mut [u8; 64],
@@ -34,7 +35,7 @@ fn put_pair(
     requires { e < 8 }
     ensures outer { outer.new ≡ filled (key_by (limits_of t.of (2 * e)) t.of.log t.of.tx words.now) (8 * e) 8 outer.old }
     ensures inner { inner.new ≡ filled (key_by (limits_of t.of (2 * e + 1)) t.of.log t.of.tx words.now) (8 * e) 8 inner.old }
-    ensures lacking { result ≡ found (λ c. lack_by (limits_of t.of (2 * e)) (limits_of t.of (2 * e + 1)) t.of.log t.of.tx words.now (8 * e + c)) 8 }
+    ensures lacking { result ≡ found (lack_from (limits_of t.of (2 * e)) (limits_of t.of (2 * e + 1)) t.of.log t.of.tx words.now (8 * e)) 8 }
 {
     let n = limits_of(t, 2 * e);
     let m = limits_of(t, 2 * e + 1);
@@ -56,6 +57,7 @@ fn put_pair(
 }
 
 // Stores the keys of all edges. True where a level lacks.
+#[tactic(auto, using(crate::specs::PlainKeysLaws::started, crate::specs::PlainKeysLaws::more_keys, crate::specs::PlainKeysLaws::more_lacks))]
 fn put_keys(outer: &mut [u8; 64], inner: &mut [u8; 64], words: &[u32; 64], t: SmallTurned) -> bool
     ensures outer { outer.new ≡ filled (plain_key t.of words.now 0) 0 (8 * pairs t.of.sub) outer.old }
     ensures inner { inner.new ≡ filled (plain_key t.of words.now 1) 0 (8 * pairs t.of.sub) inner.old }
@@ -72,6 +74,7 @@ fn put_keys(outer: &mut [u8; 64], inner: &mut [u8; 64], words: &[u32; 64], t: Sm
 
 // The keys by the words that were fetched. The arrays are local here, which the loop needs to become vectors, and the numbers of the
 // pass are made anew: handed over in memory they took 5 percent longer. A place is looked for only after a hit.
+#[tactic(auto, using(crate::proofs::KeyedLaws::keyed))]
 fn keys_by(words: &[u32; 64], s: PlacedSuperblock, pass: Pass, chroma: bool) -> Keys
     ensures { PlainTold (turned_of s.of pass chroma) words.now result }
 {
