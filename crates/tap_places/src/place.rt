@@ -4,6 +4,7 @@ ghost use Rattle.window.specs.Window.{place};
 
 use window::WindowShape;
 
+// No conversion, which would take one value: a place is made of two coordinates by a shape.
 pub(crate) fn place_of(g: WindowShape, x: usize, y: usize) -> usize
     requires { (g.top ≤ y) × (y ≤ 131072) × (x ≤ 131072) × (g.stride ≤ 131072) }
     ensures { result ≡ place g x y }

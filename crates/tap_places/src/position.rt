@@ -18,12 +18,13 @@ pub struct Position {
     pub ghost near_y: { y ≤ 131136 },
 }
 
-// A raised coordinate, brought into the n numbers from lo on.
+// A raised coordinate, brought into the n numbers from lo on. The bounds are raised for `clamp`, and the coordinate is lowered after:
+// lowered before, it would be below 0 left of the plane and above it.
 fn clamped(lo: usize, n: usize, u: usize) -> usize
     requires { (0 < n) × (lo + n ≤ 65536) }
     ensures { (result ≡ clamp lo n (u - 8)) × (lo ≤ result) × (result < lo + n) }
 {
-    (u.max(lo + 8) - 8).min(lo + n - 1)
+    u.clamp(lo + 8, lo + n + 7) - 8
 }
 
 // Whether a coordinate is one of the n numbers from lo on.
@@ -35,7 +36,8 @@ fn is_among(lo: usize, n: usize, u: usize) -> bool
 }
 
 impl Position {
-    // The coordinates of a tap, raised by 8.
+    // The coordinates of a tap, raised by 8. Two methods, as the standard has an x and a y: the pass says which of them a tap moves
+    // along, so told what moves, one method would be both.
 
     fn tap_x(self, k: usize) -> usize
         requires { k < 16 }

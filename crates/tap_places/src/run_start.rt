@@ -62,7 +62,8 @@ impl RunStart {
         }
     }
 
-    // How many positions from the first on have all their taps in the window, up to 16.
+    // How many positions from the first on have all their taps in the window, up to 16. It stands beside the test of n positions, which
+    // is for a caller that knows n: there one comparison is enough, where a count takes a difference and a bound, and stops at 16.
     pub fn inside_count_unchecked(self, g: WindowShape) -> usize
         requires { g.top + g.height ≤ 65536 }
         ensures { (result ≤ 16) × (0 < result → inside_run g self.pass self.x self.y result ≡ true) }

@@ -2,6 +2,7 @@
 -- Assumes nothing.
 use Rattle.std.specs.Prelude.{◌≡◌, refl, Bool, true, false, ◌&&◌, ◌||◌, ℕ, ◌+◌, ◌-◌, ◌*◌, ◌≤◌, ◌<◌, T, eqb, leb, ltb}
 use Rattle.std.proofs.Common.{sym, ◌∙◌, subst, suc-mul, mul-le-mul_right, arith, ltb-false, leb-true, ltb-true, lt-ltb, le-ltb, le-leb, ne_eqb}
+use Rattle.std.proofs.Math.Bool.{or-false}
 use Rattle.std.proofs.Math.Decide.{dec_lt}
 use Rattle.std.proofs.lemmas.Bool.{eqb-false}
 use Rattle.base.specs.Tests.{neither, both}
@@ -90,6 +91,21 @@ counted g e =
       top = ltb-false 65536 g.top t3.1;
       stride = ltb-false 131072 g.stride t4.1;
     }
+
+-- where they can be counted, the other tests are the test
+pub bad_countable : (g : WindowShape) (n : ℕ) → uncountable g ≡ false
+    → eqb g.width 0 || ltb 65536 (g.top + g.height) || ltb g.stride g.width || ltb n ((g.height - 1) * g.stride + g.width) ≡ bad_window g n
+unfolding bad_window
+bad_countable g n e =
+    let k = counted g e in
+    rw (
+      ne_eqb g.height 0 (λ e. omega (arith, k.tall)),
+      le-ltb 65536 g.width k.width,
+      le-ltb 131072 g.stride k.stride,
+      or-false (eqb g.width 0),
+      or-false (eqb g.width 0),
+      or-false (eqb g.width 0 || ltb 65536 (g.top + g.height) || ltb g.stride g.width),
+    )
 
 -- the plane's sample (x, y) is in the window
 pub record Inside (g : WindowShape) (x y : ℕ) : Type 0 where

@@ -9,8 +9,9 @@ ghost use Rattle.window.specs.WindowLaws.{Lent, uncountable};
 use base::search::first_place;
 
 // Rows of a plane's samples in a list that a caller lends: height rows of width samples, stride apart, the first of them at the
-// plane's row top, which document 01 calls y origin. The shape is no field beside the samples: a function that writes would then
-// have to ensure that the shape is kept, which is as much to say as that it asks for samples of this shape.
+// plane's row top, which document 01 calls y origin. Samples and shape are no one struct: each function that writes samples would
+// then have to promise that it keeps the shape. A type of tested shapes would leave the samples' number to be asked: `Lent` asks for
+// both at once, and `Lendable`, where no samples are taken, for a shape that fits some list.
 #[repr(C)]
 #[derive(Clone, Copy)]
 pub struct WindowShape {
@@ -28,19 +29,15 @@ fn uncountable(g: WindowShape) -> bool
 }
 
 // Document 01's test 12, of a window with so many samples lent.
+#[tactic(auto, using(crate::specs::WindowLaws::bad_uncountable, crate::specs::WindowLaws::bad_countable))]
 pub fn bad_window(g: WindowShape, lent: usize) -> bool
     ensures { result ≡ bad_window g lent }
 {
-    if uncountable(g) {
-        return true;
-    }
-    (g.width == 0)
-        | (65536 < g.width)
-        | (g.height == 0)
-        | (65536 < g.top + g.height)
-        | (g.stride < g.width)
-        | (131072 < g.stride)
-        | (lent < (g.height - 1) * g.stride + g.width)
+    uncountable(g)
+        || (g.width == 0)
+            | (65536 < g.top + g.height)
+            | (g.stride < g.width)
+            | (lent < (g.height - 1) * g.stride + g.width)
 }
 
 // The first sample of a row that is not below the bound, if one is.

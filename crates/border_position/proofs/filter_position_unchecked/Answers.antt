@@ -12,5 +12,5 @@ store-requires g c =
 pub returns : goal.returns
 returns g c =
     let a = c.args in
-    applied-made (stencil a.g a.p.pass a.p.x a.p.y true (sample_filtering a.depth.bits a.size a.strength.limit a.strength.blimit a.strength.thresh)) _ _ _ _
+    applied-made (stencil a.g a.p.pass a.p.x a.p.y true (sample_filtering a.f.depth.bits a.size a.f.limit a.f.blimit a.f.thresh)) _ _ _ _
     c.load-t.ensures.0 c.sample_filtering_unchecked.ensures c.store.ensures

@@ -19,4 +19,4 @@ returns-then-is_inside_unchecked c =
     let inside = sym c.is_inside_unchecked.ensures ∙ c.if-is_inside_unchecked.true in
     let made = c.taps_unchecked-run.ensures in
     (rw (made.0, made.1, made.2, made.3) at c.filter_lane_run_unchecked.ensures)
-    ∙ run_plain a.g a.pass a.x.0 a.y.0 a.n (sample_filtering a.depth.bits a.size a.strength.limit a.strength.blimit a.strength.thresh) a.samples.now inside
+    ∙ run_plain a.g a.pass a.x.0 a.y.0 a.n (sample_filtering a.f.depth.bits a.size a.f.limit a.f.blimit a.f.thresh) a.samples.now inside

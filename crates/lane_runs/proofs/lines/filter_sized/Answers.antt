@@ -10,13 +10,13 @@ filter_lanes_unchecked-requires g c =
 pub returns-then-filter_lanes_unchecked : goal.returns-then-filter_lanes_unchecked
 returns-then-filter_lanes_unchecked g c =
     let a = c.args in
-    let s = a.strength in
-    lanes_run a.depth.bits g.row.SIZE s.limit s.blimit s.thresh _ _ _ _ a.samples.now _ _ c.requires.run (rw (c.read_taps.ensures.0, c.read_taps.ensures.1) at c.gather-t.ensures)
+    let s = a.f in
+    lanes_run a.f.depth.bits g.row.SIZE s.limit s.blimit s.thresh _ _ _ _ a.samples.now _ _ c.requires.run (rw (c.read_taps.ensures.0, c.read_taps.ensures.1) at c.gather-t.ensures)
     (rw c.count.ensures at c.filter_lanes_unchecked.ensures.0) _ (rw (c.changed_taps.ensures.0, c.changed_taps.ensures.1) at c.scatter.ensures)
 
 pub returns-else-filter_lanes_unchecked : goal.returns-else-filter_lanes_unchecked
 returns-else-filter_lanes_unchecked g c =
     let a = c.args in
-    let s = a.strength in
-    lanes_kept a.depth.bits g.row.SIZE s.limit s.blimit s.thresh _ _ _ _ a.samples.now _ _ c.requires.run (rw (c.read_taps.ensures.0, c.read_taps.ensures.1) at c.gather-t.ensures)
+    let s = a.f in
+    lanes_kept a.f.depth.bits g.row.SIZE s.limit s.blimit s.thresh _ _ _ _ a.samples.now _ _ c.requires.run (rw (c.read_taps.ensures.0, c.read_taps.ensures.1) at c.gather-t.ensures)
     (rw c.count.ensures at c.filter_lanes_unchecked.ensures.0) (c.filter_lanes_unchecked.ensures.1 c.if-filter_lanes_unchecked.false)

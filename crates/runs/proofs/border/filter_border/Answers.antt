@@ -13,7 +13,7 @@ pub loop-k-preserved : goal.loop-k-preserved
 loop-k-preserved c =
     let a = c.args in
     let p = c.position_unchecked-p.ensures in
-    in_turn_next (run_of a.g a.start.pass a.start.x a.start.y (sample_filtering a.depth.bits a.size a.strength.limit a.strength.blimit a.strength.thresh)) c.loop-k.k _ _ _
+    in_turn_next (run_of a.g a.start.pass a.start.x a.start.y (sample_filtering a.f.depth.bits a.size a.f.limit a.f.blimit a.f.thresh)) c.loop-k.k _ _ _
     (rw (p.0, p.1, p.2) at simp map-id at c.filter_position_unchecked.ensures) c.loop-k.invariant
 
 pub returns : goal.returns

@@ -6,4 +6,4 @@ use Rattle.runs.proofs.border.filter_border.Given as goal
 
 abbrev pub invariant-loop-k : goal.invariant-loop-k
 invariant-loop-k l =
-    l.samples ≡ in_turn (run_of l.g l.start.pass l.start.x l.start.y (sample_filtering l.depth.bits l.size l.strength.limit l.strength.blimit l.strength.thresh)) l.k l.initial.samples
+    l.samples ≡ in_turn (run_of l.g l.start.pass l.start.x l.start.y (sample_filtering l.f.depth.bits l.size l.f.limit l.f.blimit l.f.thresh)) l.k l.initial.samples
