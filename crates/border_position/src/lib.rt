@@ -14,26 +14,26 @@ pub mod sample;
 
 use line::line_strength::LineStrength;
 use line::sample_filtering_unchecked;
-use sample::Sample;
+use sample::LentSample;
 use std::array;
 use tap_places::position::Position;
 use window::WindowShape;
 
-fn read_tap<S: Sample>(samples: &[S], g: WindowShape, p: Position, k: usize) -> u16
+fn read_tap<S: LentSample>(samples: &[S], g: WindowShape, p: Position, k: usize) -> u16
     requires { Lent g (length samples.now) × (k < 16) }
     ensures { (result ≡ get_or (map S.value samples.now) (tap_read g p.pass p.x p.y k) 0) × Holds S.width result }
 {
     samples[p.read_place_unchecked(g, k)].word()
 }
 
-fn load<S: Sample>(samples: &[S], g: WindowShape, p: Position) -> [u16; 16]
+fn load<S: LentSample>(samples: &[S], g: WindowShape, p: Position) -> [u16; 16]
     requires { Lent g (length samples.now) }
     ensures { (result ≡ gather (tap_read g p.pass p.x p.y) 0 16 (map S.value samples.now)) × HoldsLine S.width result }
 {
     array::from_fn(move |k| read_tap(samples, g, p, k))
 }
 
-fn write_tap<S: Sample>(samples: &mut [S], g: WindowShape, p: Position, k: usize, word: u16)
+fn write_tap<S: LentSample>(samples: &mut [S], g: WindowShape, p: Position, k: usize, word: u16)
     requires { Lent g (length samples.old) × (k < 16) × Holds S.width word }
     ensures { map S.value samples.new ≡ put (tap_stored g p.pass p.x p.y k) (tap_written g p.pass p.x p.y k) word (map S.value samples.old) }
 {
@@ -42,17 +42,18 @@ fn write_tap<S: Sample>(samples: &mut [S], g: WindowShape, p: Position, k: usize
     }
 }
 
-fn store<S: Sample>(samples: &mut [S], g: WindowShape, p: Position, t: &[u16; 16])
+fn store<S: LentSample>(samples: &mut [S], g: WindowShape, p: Position, t: &[u16; 16])
     requires { Lent g (length samples.old) × HoldsLine S.width t.now }
     ensures { map S.value samples.new ≡ scatter (tap_stored g p.pass p.x p.y) (tap_written g p.pass p.x p.y) (λ k. get_or t.now k 0) 16 (map S.value samples.old) }
 {
+    // With indices: the tap's number tells whether its word is stored, and where.
     for (k, word) in t.iter().enumerate() {
         write_tap(samples, g, p, k, *word);
     }
 }
 
 // The work without tests, for a caller that has made them.
-pub fn filter_position_unchecked<S: Sample>(
+pub fn filter_position_unchecked<S: LentSample>(
     samples: &mut [S],
     g: WindowShape,
     p: Position,

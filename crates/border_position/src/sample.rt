@@ -1,9 +1,12 @@
-// A sample that a caller lends, as a word or as a byte. The line filter works on words.
+// A sample that a caller lends, as a word or as a byte.
 ghost use Rattle.std.specs.Prelude.{◌≡◌, ℕ};
 ghost use Rattle.base.specs.Width.{Width, Byte, U16};
 ghost use Rattle.border_position.specs.Holds.{Holds};
 
-pub trait Sample: Copy {
+// What the line filter reads and writes, which works on words. `line::masks::Sample` is beside it for lanes, which keep their width: there
+// a sample has the differences that masks take, and no word. That a depth goes with this width is a clause, `admits`, in the contracts
+// above: a type of depths for each width would be generic over a sample that it does not hold.
+pub trait LentSample: Copy {
     ghost width: { Width };
 
     ghost value: { Self → ℕ };
@@ -16,7 +19,7 @@ pub trait Sample: Copy {
         ensures { value result ≡ word };
 }
 
-impl Sample for u16 {
+impl LentSample for u16 {
     ghost width = { U16 };
 
     ghost value = { λ x. x };
@@ -30,13 +33,13 @@ impl Sample for u16 {
     }
 }
 
-impl Sample for u8 {
+impl LentSample for u8 {
     ghost width = { Byte };
 
     ghost value = { λ x. x };
 
     fn word(self) -> u16 {
-        self as u16
+        u16::from(self)
     }
 
     fn of_word(word: u16) -> u8 {

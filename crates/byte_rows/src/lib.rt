@@ -11,8 +11,7 @@ mod turn;
 
 use across::{load_across, store_across};
 use down::{load_down, store_down};
-use lane_runs::across::Across;
-use lane_runs::down::Down;
+use lane_runs::direction::Direction;
 use tap_places::tap_run::TapRun;
 
 // All taps are loaded, and stored, where all is set, else p3 to q3. What words and bytes share is `copy_rows_unchecked`: words across
@@ -22,20 +21,9 @@ pub fn load_lanes_unchecked(t: &mut [u8; 256], samples: &[u8], run: TapRun, all:
     requires { SpacedRun run.at run.step run.along run.n samples.now × (0 < run.n) }
     ensures { Taken run.at run.step run.along run.n (8 - reach all) (2 * reach all) samples.now t.new × (length t.new ≡ 256) }
 {
-    if run.step == 1 {
-        let lines = Across {
-            at: run.at,
-            along: run.along,
-            n: run.n,
-        };
-        load_across(t, samples, lines, all);
-    } else {
-        let lines = Down {
-            at: run.at,
-            step: run.step,
-            n: run.n,
-        };
-        load_down(t, samples, lines, all);
+    match Direction::of_unchecked(run) {
+        Direction::Across(lines) => load_across(t, samples, lines, all),
+        Direction::Down(lines) => load_down(t, samples, lines, all),
     }
 }
 
@@ -44,19 +32,8 @@ pub fn store_lanes_unchecked(samples: &mut [u8], run: TapRun, t: &mut [u8; 256],
     requires { SpacedRun run.at run.step run.along run.n samples.old × (0 < run.n) }
     ensures { Spread run.at run.step run.along run.n (8 - reach all) (2 * reach all) (λ l k. get_or t.old (16 * k + l) 0) samples.old samples.new }
 {
-    if run.step == 1 {
-        let lines = Across {
-            at: run.at,
-            along: run.along,
-            n: run.n,
-        };
-        store_across(samples, lines, t, all);
-    } else {
-        let lines = Down {
-            at: run.at,
-            step: run.step,
-            n: run.n,
-        };
-        store_down(samples, lines, t, all);
+    match Direction::of_unchecked(run) {
+        Direction::Across(lines) => store_across(samples, lines, t, all),
+        Direction::Down(lines) => store_down(samples, lines, t, all),
     }
 }

@@ -7,10 +7,10 @@ ghost use Rattle.window.specs.Window.{bad_sample};
 ghost use Rattle.window.specs.WindowLaws.{Lent};
 
 use base::depth::{Depth, is_supported};
-use border_position::sample::Sample;
+use border_position::sample::LentSample;
 use window::{WindowShape, first_bad_sample_unchecked};
 
-pub trait PlaneSample: Sample {
+pub trait PlaneSample: LentSample {
     // Of a list of samples, the list of their numbers.
     ghost values: { List Self → List ℕ };
 

@@ -1,3 +1,4 @@
+pub mod Stands
 pub mod RowCopies
 pub mod Spread
 pub mod SpreadLaws

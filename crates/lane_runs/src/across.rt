@@ -13,6 +13,7 @@ fn load_lane(t: &mut [u16; 256], l: usize, samples: &[u16], at: usize, taps: Row
     ensures { t.new ≡ scatter (λ k. true) (λ k. 16 * (taps.lo + k) + l) (λ k. get_or samples.now (at + (taps.lo + k)) 0) taps.m t.old }
 {
     let first = at + taps.lo;
+    // With indices: a tap's number makes its place in the table, where the taps of a lane lie 16 apart.
     for (k, sample) in samples[first..first + taps.m].iter().enumerate() {
         t[16 * (taps.lo + k) + l] = *sample;
     }
@@ -53,7 +54,7 @@ impl Lines for Across {
 
     fn gather(self, samples: &[u16], taps: Rows) -> [u16; 256] {
         let mut t = [0u16; 256];
-        // Lanes are numbers alone here: no list is walked.
+        // By lane numbers: a lane is no part of the table that a loop could be lent, but every 16th entry.
         for l in 0..self.n {
             load_lane(&mut t, l, samples, self.at + l * self.along, taps);
         }
@@ -61,7 +62,7 @@ impl Lines for Across {
     }
 
     fn scatter(self, samples: &mut [u16], t: &[u16; 256], taps: Rows) {
-        // The same.
+        // By lane numbers, since the lines lie apart in the window and the lanes do not: no one list holds them.
         for l in 0..self.n {
             store_lane(samples, self.at + l * self.along, t, l, taps);
         }

@@ -8,12 +8,12 @@ ghost use Rattle.window.specs.Stencil.{in_turn};
 ghost use Rattle.lane_runs.specs.Spread.{LaneRun};
 
 pub mod across;
+pub mod direction;
 pub mod down;
 mod lines;
 pub mod rows;
 
-use across::Across;
-use down::Down;
+use direction::Direction;
 use line::line_strength::LineStrength;
 use lines::filter_lines;
 use tap_places::tap_run::TapRun;
@@ -26,19 +26,8 @@ pub fn filter_lane_run_unchecked(samples: &mut [u16], run: TapRun, size: u8, f: 
     if run.n == 0 {
         return;
     }
-    if run.step == 1 {
-        let lines = Across {
-            at: run.at,
-            along: run.along,
-            n: run.n,
-        };
-        filter_lines(lines, samples, size, f);
-    } else {
-        let lines = Down {
-            at: run.at,
-            step: run.step,
-            n: run.n,
-        };
-        filter_lines(lines, samples, size, f);
+    match Direction::of_unchecked(run) {
+        Direction::Across(lines) => filter_lines(lines, samples, size, f),
+        Direction::Down(lines) => filter_lines(lines, samples, size, f),
     }
 }

@@ -33,7 +33,8 @@ pub(crate) trait Lines: Copy {
         ensures { Spread (at self) (step self) (along self) (n self) taps.lo taps.m (λ l k. get_or t.now (16 * k + l) 0) samples.old samples.new };
 }
 
-// The taps that a size reads, as many on each side of the edge, and those that it can change.
+// The taps that a size reads, as many on each side of the edge, and those that it can change. A size is the standard's number: 8.8.2
+// computes with it, keys pack it, and every number above 1 filters as 2 does.
 
 fn read_taps(size: u8) -> Rows
     ensures { (result.lo ≡ 8 - reads size) × (result.m ≡ 2 * reads size) }

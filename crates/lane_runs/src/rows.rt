@@ -43,7 +43,8 @@ fn copy_rows_of<T: Copy, const N: usize>(
     requires { RowsLent into.at into.apart N rows.lo rows.m (length to.old) × RowsLent out_of.at out_of.apart N rows.lo rows.m (length from.now) }
     ensures { to.new ≡ rows_copied from.now out_of.at out_of.apart into.at into.apart N rows.lo rows.m to.old }
 {
-    // By row numbers: chunks_mut tells a proof the length of what it leaves, and not the samples.
+    // By row numbers: rows lie apart by a stride, so that a chunk of chunks_mut would be more than a row, and of what it lends back a
+    // proof knows the length alone, not the samples.
     for k in rows.lo..rows.lo + rows.m {
         copy_row::<T, N>(
             to,
@@ -67,7 +68,7 @@ fn copy_rows_any<T: Copy>(
     requires { RowsLent into.at into.apart n rows.lo rows.m (length to.old) × RowsLent out_of.at out_of.apart n rows.lo rows.m (length from.now) }
     ensures { to.new ≡ rows_copied from.now out_of.at out_of.apart into.at into.apart n rows.lo rows.m to.old }
 {
-    // The same.
+    // By row numbers, since a chunk of chunks_mut is more than a row, and only its length is known when it is lent back.
     for k in rows.lo..rows.lo + rows.m {
         copy_samples(
             to,

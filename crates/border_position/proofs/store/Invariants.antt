@@ -5,4 +5,4 @@ use Rattle.border_position.proofs.store.Given as goal
 
 abbrev pub invariant-loop-k : goal.invariant-loop-k
 invariant-loop-k g l =
-    map g.S.Sample.value l.samples ≡ scatter (tap_stored l.g l.p.pass l.p.x l.p.y) (tap_written l.g l.p.pass l.p.x l.p.y) (λ j. get_or l.t j 0) l.k (map g.S.Sample.value l.initial.samples)
+    map g.S.LentSample.value l.samples ≡ scatter (tap_stored l.g l.p.pass l.p.x l.p.y) (tap_written l.g l.p.pass l.p.x l.p.y) (λ j. get_or l.t j 0) l.k (map g.S.LentSample.value l.initial.samples)

@@ -23,7 +23,7 @@ unfolding superblock_loop_filter_cells
 returns-in_err-number_faults g c =
     let a = c.args in
     let fault = c.in_err-number_faults.field-0.0 in
-    let tested : (after : Outcome (List ℕ)) → refused_by a.n (admits g.S.Sample.width a.n.bit_depth) (length (g.C.Words.words a.cells)) after ≡ refused (number_of fault) (place_of fault) = λ after. rw (c.admits.ensures, c.count.ensures) at (c.in_err-number_faults.ensures after) in
+    let tested : (after : Outcome (List ℕ)) → refused_by a.n (admits g.S.LentSample.width a.n.bit_depth) (length (g.C.Words.words a.cells)) after ≡ refused (number_of fault) (place_of fault) = λ after. rw (c.admits.ensures, c.count.ensures) at (c.in_err-number_faults.ensures after) in
     let e = err_from_is_err_and c.from_residual.result c.from_residual.ensures.1 in
     rw (tested _, e.1, e.2) (refl, refl)
 
@@ -49,5 +49,5 @@ pub returns : goal.returns
 unfolding superblock_loop_filter_cells
 returns g c =
     let a = c.args in
-    let tested : (after : Outcome (List ℕ)) → refused_by a.n (admits g.S.Sample.width a.n.bit_depth) (length (g.C.Words.words a.cells)) after ≡ after = λ after. rw (c.admits.ensures, c.count.ensures) at (c.in_ok-number_faults.ensures after) in
+    let tested : (after : Outcome (List ℕ)) → refused_by a.n (admits g.S.LentSample.width a.n.bit_depth) (length (g.C.Words.words a.cells)) after ≡ after = λ after. rw (c.admits.ensures, c.count.ensures) at (c.in_ok-number_faults.ensures after) in
     answers_on _ _ _ _ _ (tested _) (rw (c.pass_of.ensures, c.superblock_of.ensures) at c.test_lists_and_filter.ensures)
