@@ -1,6 +1,9 @@
 // The bit depths of VP9.
-ghost use Rattle.std.specs.Prelude.{◌≡◌, ◌<◌, true, false, IfSome, IfNone};
+ghost use Rattle.std.specs.Prelude.{◌≡◌, ◌^◌, ◌<◌, true, false, MatchResult};
 ghost use Rattle.base.specs.Depth.{supported, scaled};
+ghost use Rattle.base.specs.Fault.{number_of, place_of};
+
+use crate::fault::Fault;
 
 // The bit depths of VP9.
 #[tactic(auto, unfolding(crate::specs::Depth::supported))]
@@ -17,17 +20,30 @@ pub struct Depth {
     pub ghost known: { supported bits ≡ true },
 }
 
-impl Depth {
-    // None where the depth is not supported.
-    pub fn new(bits: u8) -> Option<Depth>
-        ensures some { IfSome result (λ d. d.bits ≡ bits) }
-        ensures none { IfNone result (supported bits ≡ false) }
-    {
+impl TryFrom<u8> for Depth {
+    type Error = Fault;
+
+    ghost try_from_gives = { λ n r. MatchResult r (λ made. made.bits ≡ n) (λ fault. (number_of fault ≡ 2) × (place_of fault ≡ 0) × (supported n ≡ false)) };
+
+    fn try_from(bits: u8) -> Result<Depth, Fault> {
         if is_supported(bits) {
-            Some(Depth { bits })
+            Ok(Depth { bits })
         } else {
-            None
+            Err(Fault::Depth)
         }
+    }
+}
+
+impl Depth {
+    // That of samples that are bytes.
+    pub const EIGHT: Depth = Depth { bits: 8 };
+
+    // Its samples are below.
+    #[tactic(auto, unfolding(crate::specs::Depth::supported))]
+    pub fn bound(self) -> u16
+        ensures { result ≡ 2 ^ self.bits }
+    {
+        1 << self.bits
     }
 
     // v << (depth - 8): a number at the scale of the depth.

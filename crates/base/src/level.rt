@@ -1,5 +1,8 @@
 // A filter level.
-ghost use Rattle.std.specs.Prelude.{◌≡◌, ◌≤◌, ◌<◌, IfSome, IfNone};
+ghost use Rattle.std.specs.Prelude.{◌≡◌, ◌≤◌, ◌<◌, MatchResult};
+ghost use Rattle.base.specs.Fault.{number_of, place_of};
+
+use crate::fault::Fault;
 
 // 0 to 63: a value of this type is in range.
 #[derive(Clone, Copy)]
@@ -8,16 +11,16 @@ pub struct Level {
     pub ghost small: { number ≤ 63 },
 }
 
-impl Level {
-    // None above 63.
-    pub fn new(number: u8) -> Option<Level>
-        ensures some { IfSome result (λ l. l.number ≡ number) }
-        ensures none { IfNone result (63 < number) }
-    {
+impl TryFrom<u8> for Level {
+    type Error = Fault;
+
+    ghost try_from_gives = { λ n r. MatchResult r (λ made. made.number ≡ n) (λ fault. (number_of fault ≡ 6) × (place_of fault ≡ 0) × (63 < n)) };
+
+    fn try_from(number: u8) -> Result<Level, Fault> {
         if number <= 63 {
-            Some(Level { number })
+            Ok(Level { number })
         } else {
-            None
+            Err(Fault::Level(0))
         }
     }
 }

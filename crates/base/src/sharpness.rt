@@ -1,5 +1,8 @@
 // The sharpness of a frame.
-ghost use Rattle.std.specs.Prelude.{◌≡◌, ◌≤◌, ◌<◌, IfSome, IfNone};
+ghost use Rattle.std.specs.Prelude.{◌≡◌, ◌≤◌, ◌<◌, MatchResult};
+ghost use Rattle.base.specs.Fault.{number_of, place_of};
+
+use crate::fault::Fault;
 
 // 0 to 7: a value of this type is in range.
 #[derive(Clone, Copy)]
@@ -8,16 +11,16 @@ pub struct Sharpness {
     pub ghost small: { level ≤ 7 },
 }
 
-impl Sharpness {
-    // None above 7.
-    pub fn new(level: u8) -> Option<Sharpness>
-        ensures some { IfSome result (λ s. s.level ≡ level) }
-        ensures none { IfNone result (7 < level) }
-    {
+impl TryFrom<u8> for Sharpness {
+    type Error = Fault;
+
+    ghost try_from_gives = { λ n r. MatchResult r (λ made. made.level ≡ n) (λ fault. (number_of fault ≡ 1) × (place_of fault ≡ 0) × (7 < n)) };
+
+    fn try_from(level: u8) -> Result<Sharpness, Fault> {
         if level <= 7 {
-            Some(Sharpness { level })
+            Ok(Sharpness { level })
         } else {
-            None
+            Err(Fault::Sharpness)
         }
     }
 }

@@ -1,5 +1,8 @@
 // A block size that was tested.
-ghost use Rattle.std.specs.Prelude.{◌≡◌, ◌≤◌, ◌<◌, IfSome, IfNone};
+ghost use Rattle.std.specs.Prelude.{◌≡◌, ◌≤◌, ◌<◌, MatchResult};
+ghost use Rattle.base.specs.Fault.{number_of, place_of};
+
+use base::fault::Fault;
 
 // BLOCK_4X4, 0, to BLOCK_64X64, 12.
 #[derive(Clone, Copy)]
@@ -8,16 +11,16 @@ pub struct BlockSize {
     pub ghost known: { number ≤ 12 },
 }
 
-impl BlockSize {
-    // None above 12.
-    pub fn new(number: u8) -> Option<BlockSize>
-        ensures some { IfSome result (λ s. s.number ≡ number) }
-        ensures none { IfNone result (12 < number) }
-    {
+impl TryFrom<u8> for BlockSize {
+    type Error = Fault;
+
+    ghost try_from_gives = { λ n r. MatchResult r (λ made. made.number ≡ n) (λ fault. (number_of fault ≡ 8) × (place_of fault ≡ 0) × (12 < n)) };
+
+    fn try_from(number: u8) -> Result<BlockSize, Fault> {
         if number <= 12 {
-            Some(BlockSize { number })
+            Ok(BlockSize { number })
         } else {
-            None
+            Err(Fault::Block(0))
         }
     }
 }

@@ -71,11 +71,7 @@ impl LimitTable {
 pub fn strength_for_level(lvl: u8, sharpness: u8) -> Result<FilterStrength, Fault>
     ensures { outcome_of result ≡ strength_for lvl sharpness }
 {
-    let Some(sharpness) = Sharpness::new(sharpness) else {
-        return Err(Fault::Sharpness);
-    };
-    let Some(level) = Level::new(lvl) else {
-        return Err(Fault::Level(0));
-    };
+    let sharpness = Sharpness::try_from(sharpness)?;
+    let level = Level::try_from(lvl)?;
     Ok(limits_table().strength(level, sharpness))
 }
