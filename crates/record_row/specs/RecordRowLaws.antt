@@ -31,7 +31,7 @@ unfolding stored
 stored_none ws rs = refl
 
 -- they are those of a part that has all the words
-stored_part : (j : ℕ) (ws : List ℕ) (k : ℕ) (rs : List CellRecord) → k ≤ j → stored ws k rs ≡ stored (take j ws) k rs
+pub stored_part : (j : ℕ) (ws : List ℕ) (k : ℕ) (rs : List CellRecord) → k ≤ j → stored ws k rs ≡ stored (take j ws) k rs
 unfolding stored
 stored_part j ws zero rs h = refl
 stored_part j ws (suc k) rs h = rw (stored_part j ws k rs (omega arith), get_or-take j ws k 0 h)
