@@ -4,13 +4,13 @@ use Rattle.std.specs.Prelude.{◌≡◌, refl, Bool, List, ℕ, ◌+◌, ◌*◌
 use Rattle.std.proofs.Math.Path.{sym}
 use Rattle.std.proofs.Common.{ap, ◌∙◌, subst, arith}
 use Rattle.std.proofs.Math.Decide.{dec_lt}
+use Rattle.std.proofs.lemmas.Grind.{common_steps}
 use Rattle.base.specs.First.{first, found, first_found, found_none, found-false, First, first_is, first_small}
 use Rattle.base.specs.FirstLaws.{first_same, found_same}
 use Rattle.decisions.specs.Decision.{levelless, cell_place}
 use Rattle.decisions.specs.LevellessLaws.{levelless_at_lem, first_cells}
 use Rattle.geometry.specs.Frame.{cells_from}
 use Rattle.geometry.specs.declared.Pass.{Pass}
-use Rattle.geometry.specs.declared.Pass.TheVariants.{Vertical, Horizontal}
 use Rattle.geometry.specs.declared.Superblock.{Superblock}
 use Rattle.pass_edges.specs.PassEdges.{along_sub, edge_count, cell_start}
 use Rattle.pass_edges.specs.PassEdgesLaws.{cell_first}
@@ -22,8 +22,7 @@ use Rattle.keys.specs.declared.edge_keys.Keys.{Keys}
 
 turned_paired : (s : Superblock) (pass : Pass) (chroma : Bool) → (turned_of s pass chroma).paired ≡ along_sub s pass
 unfolding turned_of
-turned_paired s Vertical chroma = refl
-turned_paired s Horizontal chroma = refl
+turned_paired s pass chroma = grind (arith, common_steps)
 
 -- the first positions of the cells of n edges, and all their positions
 found_cells : (s : Superblock) (pass : Pass) (chroma : Bool) (cells : List ℕ) (n : ℕ)
@@ -37,8 +36,7 @@ found_cells s pass chroma cells n = same_false _ _ some none
     at = cell_place (along_sub s pass)
 
     below : (sub : Bool) (k : ℕ) → k < 8 * n → cell_place sub k < 64 * n
-    below true k h = omega arith
-    below false k h = omega arith
+    below sub k h = grind (arith, common_steps)
 
     some : found test (64 * n) ≡ false → found (λ k. test (at k)) (8 * n) ≡ false
     some e = found_none (λ k. test (at k)) (8 * n) (λ k h. found-false test (64 * n) e (at k) (below (along_sub s pass) k h))
@@ -50,8 +48,7 @@ found_cells s pass chroma cells n = same_false _ _ some none
         cell = first (λ k. test (at k)) (8 * n)
 
         end : (sub : Bool) → cell_place sub (8 * n) ≡ 64 * n
-        end true = omega arith
-        end false = omega arith
+        end sub = grind (arith, common_steps)
 
         go : First test 0 (64 * n) (at cell) → Dec (cell < 8 * n) → found test (64 * n) ≡ false
         go f (yes l) = absurd (subst T (sym f.holds ∙ found-false (λ k. test (at k)) (8 * n) e cell l) tt)
@@ -106,5 +103,4 @@ module _ (s : Superblock) (pass : Pass) (chroma : Bool) (cells : List ℕ) (p : 
   )
     where
       twice : (b : Bool) (x : ℕ) → cond b (cond b (Some x) None) None ≡ cond b (Some x) None
-      twice true x = refl
-      twice false x = refl
+      twice b x = grind (arith, common_steps)

@@ -1,9 +1,10 @@
 -- Keys by plain numbers are the keys of the decisions, and a level lacks where a position decides so.
 -- Assumes nothing.
 use Rattle.std.specs.Prelude.{◌≡◌, Bool, ◌||◌, List, ℕ, ◌+◌, ◌*◌, ◌/◌, ◌%◌, ◌≤◌, ◌<◌, length, get_or, replicate}
-use Rattle.std.proofs.Math.Path.{refl, sym, ap}
-use Rattle.std.proofs.Common.{◌∙◌, inr, zero-add, arith, ext_get_or, take_all, lt-ltb, le-ltb}
+use Rattle.std.proofs.Math.Path.{sym}
+use Rattle.std.proofs.Common.{◌∙◌, inr, zero-add, arith, ext_get_or, take_all, le-ltb}
 use Rattle.std.proofs.Math.Bool.{true, false}
+use Rattle.std.proofs.lemmas.Grind.{common_steps}
 use Rattle.std.proofs.Math.Decide.{dec_lt}
 use Rattle.std.proofs.lemmas.List.{length-replicate, get_or-replicate}
 use Rattle.base.specs.Filled.{filled, table, filled_at, filled_other, filled_same, length-filled, take-filled}
@@ -16,9 +17,8 @@ use Rattle.edge_steps.specs.SuperblockFilter.{on_screen, apply_filter}
 use Rattle.geometry.specs.Coordinates.{shr}
 use Rattle.geometry.specs.Frame.{cells_from}
 use Rattle.geometry.specs.declared.Pass.{Pass}
-use Rattle.geometry.specs.declared.Pass.TheVariants.{Vertical, Horizontal}
 use Rattle.geometry.specs.declared.Superblock.{Superblock}
-use Rattle.pass_edges.specs.PassEdges.{sub, along_sub, edge_count, edge_len, cell_start}
+use Rattle.pass_edges.specs.PassEdges.{along_sub, edge_count, edge_len, cell_start}
 use Rattle.pass_edges.specs.PassEdgesLaws.{edge_count_small, edge_len_small, cell_first}
 use Rattle.positions.specs.Positions.{Placed, luma_x, luma_y}
 use Rattle.decisions.specs.Decision.{cell_index, decision_by, decision, without_level, levelless}
@@ -29,19 +29,10 @@ use Rattle.keys.specs.Keys.{key_of, key_at, key_in, keys_of}
 use Rattle.keys.specs.PlainKeys.{turned_of, pairs, limits_of, plain, field, key_by, lack_by, plain_key, plain_lack, word_from, word_in}
 use Rattle.keys.specs.declared.turned.Turned.{Turned}
 
-turned_sub : (s : Superblock) (pass : Pass) (chroma : Bool) → (turned_of s pass chroma).sub ≡ sub s pass
-unfolding turned_of
-turned_sub s Vertical chroma = refl
-turned_sub s Horizontal chroma = refl
-
 -- two edges to a pair
 pub edge_pairs : (s : Superblock) (pass : Pass) (chroma : Bool) → edge_count s pass ≡ 2 * pairs (turned_of s pass chroma).sub
-unfolding edge_count
-edge_pairs s pass chroma = rw (turned_sub s pass chroma) (count (sub s pass))
-  where
-    count : (b : Bool) → shr 16 b ≡ 2 * pairs b
-    count true = refl
-    count false = refl
+unfolding edge_count turned_of
+edge_pairs s pass chroma = grind (arith, common_steps)
 
 -- entries that are filled, and zeros behind them
 filled_rest : (f : ℕ → ℕ) (n m : ℕ) → n ≤ m → ((k : ℕ) → n ≤ k → f k ≡ 0) → filled f 0 n (replicate m 0) ≡ table f m
@@ -83,20 +74,13 @@ lacks_pair s pass chroma cells k = lacks_in s pass chroma cells 0 k || lacks_in 
 
 -- two tests, of which one does not hold where the other does not
 pub same_false : (a b : Bool) → (b ≡ false → a ≡ false) → (a ≡ false → b ≡ false) → a ≡ b
-same_false true true f g = refl
-same_false true false f g = f refl
-same_false false true f g = sym (g refl)
-same_false false false f g = refl
+same_false a b f g = grind (arith, common_steps)
 
 -- position i of an edge is one of its 8 cells'
 cell_of_lem : (s : Superblock) (pass : Pass) (i : ℕ) → i < edge_len s pass → let n = shr 8 (along_sub s pass) in
     (i / n < 8) × (i ≡ shr (8 * (i / n)) (along_sub s pass) + i % n) × (i % n < n)
 unfolding edge_len
-cell_of_lem s pass i h = cases (along_sub s pass) h
-  where
-    cases : (b : Bool) → i < shr 64 b → (i / shr 8 b < 8) × (i ≡ shr (8 * (i / shr 8 b)) b + i % shr 8 b) × (i % shr 8 b < shr 8 b)
-    cases true l = (omega arith, omega arith, omega arith)
-    cases false l = (omega arith, omega arith, omega arith)
+cell_of_lem s pass i h = grind (arith, common_steps)
 
 module _ (s : Superblock) (pass : Pass) (chroma : Bool) (cells : List ℕ) (p : Placed s) where
   -- a cell decides by the limits of its edge
@@ -124,7 +108,8 @@ module _ (s : Superblock) (pass : Pass) (chroma : Bool) (cells : List ℕ) (p : 
     unfolding word_in word_from
     word_by on =
         let at = index_by s chroma p pass (k / 8) parity (k % 8) l in
-        rw (at, lt-ltb _ _ (rw at at (index_below on)))
+        let below = index_below on in
+        grind (arith, common_steps)
 
     decision_by_lem : shown_in s pass parity k ≡ true
         → decision s pass chroma cells (2 * (k / 8) + parity) (cell_start s pass (k % 8)) ≡ plain_of (turned_of s pass chroma) cells parity k
@@ -133,32 +118,20 @@ module _ (s : Superblock) (pass : Pass) (chroma : Bool) (cells : List ℕ) (p : 
 
     key_by_lem : key_of (decision s pass chroma cells (2 * (k / 8) + parity) (cell_start s pass (k % 8))) ≡ key_of (plain_of (turned_of s pass chroma) cells parity k)
     unfolding decision plain key_of
-    key_by_lem = go (shown_in s pass parity k) refl
-      where
-        go : (on : Bool) → shown_in s pass parity k ≡ on → key_of (decision s pass chroma cells (2 * (k / 8) + parity) (cell_start s pass (k % 8))) ≡ key_of (plain_of (turned_of s pass chroma) cells parity k)
-        go true on = ap key_of (decision_by_lem on)
-        go false on = rw (on, sym (screen_by s chroma p (2 * (k / 8) + parity) (k % 8) pass) ∙ on)
+    key_by_lem = let shown = screen_by s chroma p (2 * (k / 8) + parity) (k % 8) pass in grind (arith, common_steps, decision_by_lem)
 
     pub lack_by_lem : lacks_in s pass chroma cells parity k ≡ without_level (plain_of (turned_of s pass chroma) cells parity k)
     unfolding decision plain
-    lack_by_lem = go (shown_in s pass parity k) refl
-      where
-        go : (on : Bool) → shown_in s pass parity k ≡ on → lacks_in s pass chroma cells parity k ≡ without_level (plain_of (turned_of s pass chroma) cells parity k)
-        go true on = ap (λ (d : Decision). without_level d) (decision_by_lem on)
-        go false on = rw (on, sym (screen_by s chroma p (2 * (k / 8) + parity) (k % 8) pass) ∙ on)
+    lack_by_lem = let shown = screen_by s chroma p (2 * (k / 8) + parity) (k % 8) pass in grind (arith, common_steps, decision_by_lem)
 
     key_in_lem : (words : List ℕ) → get_or words k 0 ≡ word_in (turned_of s pass chroma) cells k → plain_key (turned_of s pass chroma) words parity k ≡ key_in s pass chroma cells parity k
     unfolding plain_key key_by key_in key_at
-    key_in_lem words e = rw (e, lt-ltb _ _ h) (sym key_by_lem)
+    key_in_lem words e = let same = key_by_lem in grind (arith, common_steps)
 
   module _ (lent : cells_from s.row s.cols s.rows ≤ length cells) (words : List ℕ)
       (fetched : words ≡ filled (word_in (turned_of s pass chroma) cells) 0 (8 * pairs (turned_of s pass chroma).sub) (replicate 64 0)) where
     few_pairs : pairs (turned_of s pass chroma).sub ≤ 8
-    few_pairs = cases (turned_of s pass chroma).sub
-      where
-        cases : (b : Bool) → pairs b ≤ 8
-        cases true = omega arith
-        cases false = omega arith
+    few_pairs = grind (arith, common_steps)
 
     pub word_at : (k : ℕ) → k < 8 * pairs (turned_of s pass chroma).sub → get_or words k 0 ≡ word_in (turned_of s pass chroma) cells k
     word_at k b =
