@@ -6,9 +6,8 @@ use Rattle.std.proofs.lemmas.Bool.{eqb-false}
 use Rattle.std.proofs.Math.ListN.{get_or-append}
 use Rattle.std.proofs.lemmas.List.{get_or_at}
 use Rattle.base.specs.Filled.{table}
-use Rattle.decisions.specs.Decision.{decision}
+use Rattle.decisions.specs.Decision.{Decision, decision}
 use Rattle.decisions.specs.DecisionLaws.{decision_size, decision_level}
-use Rattle.decisions.specs.declared.Decision.{Decision}
 use Rattle.geometry.specs.CoordinatesLaws.{shr_small}
 use Rattle.geometry.specs.declared.Pass.{Pass}
 use Rattle.geometry.specs.declared.Superblock.{Superblock}

@@ -5,7 +5,7 @@ use Rattle.std.proofs.Common.{◌∙◌, inl, inr, refl, sym, ap, List, [], ◌+
 use mathlib.Core.List.Memᴰ
 use mathlib.Core.List.{Memᴰ}
 use Rattle.decisions.specs.DecisionLaws.{same_decision}
-use Rattle.decisions.specs.declared.Decision.{Decision}
+use Rattle.decisions.specs.Decision.{Decision}
 use Rattle.geometry.specs.Coordinates.{shr}
 use Rattle.geometry.specs.declared.Pass.{Pass}
 use Rattle.order.specs.Grid.{select, select_same, select_const, strip, strips, grid, strip_mem, strip_split}

@@ -1,8 +1,7 @@
 -- The decided positions of a pass: 8.8.2's steps 1 to 14 over the grid of a superblock plane, with packed cells for mode info.
 -- Assumes nothing.
 use Rattle.std.specs.Prelude.{Bool, ◌&&◌, List, ℕ, eqb, ltb}
-use Rattle.decisions.specs.Decision.{decision}
-use Rattle.decisions.specs.declared.Decision.{Decision}
+use Rattle.decisions.specs.Decision.{Decision, decision}
 use Rattle.geometry.specs.declared.Pass.{Pass}
 use Rattle.geometry.specs.declared.Superblock.{Superblock}
 use Rattle.order.specs.Grid.{select, grid}

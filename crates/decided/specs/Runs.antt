@@ -2,8 +2,7 @@
 -- from the lowest position, each run as long as that allows.
 -- Assumes nothing.
 use Rattle.std.specs.Prelude.{Bool, cond, ◌&&◌, List, [], ◌∷◌, ◌++◌, ℕ, ◌+◌, eqb, leb, ltb}
-use Rattle.decisions.specs.Decision.{decision}
-use Rattle.decisions.specs.declared.Decision.{Decision}
+use Rattle.decisions.specs.Decision.{Decision, decision}
 use Rattle.geometry.specs.declared.Pass.{Pass}
 use Rattle.geometry.specs.declared.Superblock.{Superblock}
 use Rattle.order.specs.Grid.{select, strip, grid}

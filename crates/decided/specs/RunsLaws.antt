@@ -4,9 +4,8 @@
 use Rattle.std.specs.Prelude.{◌≡◌, refl, true, false, cond, ◌&&◌, ℕ, ◌+◌, ◌≤◌, ◌<◌, ltb, length}
 use Rattle.std.proofs.Common.{◌∙◌, arith, sym, ap, Bool, List, ltb→lt}
 use mathlib.Core.List.{Memᴰ}
-use Rattle.decisions.specs.Decision.{decision}
+use Rattle.decisions.specs.Decision.{Decision, decision}
 use Rattle.decisions.specs.DecisionLaws.{decision_size, decision_level}
-use Rattle.decisions.specs.declared.Decision.{Decision}
 use Rattle.geometry.specs.declared.Pass.{Pass}
 use Rattle.geometry.specs.declared.Superblock.{Superblock}
 use Rattle.order.specs.Grid.{select_mem, select_passes, select-length}

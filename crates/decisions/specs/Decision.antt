@@ -10,7 +10,13 @@ use Rattle.edge_steps.specs.FilterSize.{filter_size}
 use Rattle.edge_steps.specs.SuperblockFilter.{loop_cell, is_block_edge, is_tx_edge, is32_edge, on_screen, apply_filter}
 use Rattle.positions.specs.Positions.{luma_x, luma_y}
 use Rattle.pass_edges.specs.PassEdges.{sub, edge_len}
-use Rattle.decisions.specs.declared.Decision.{Decision}
+
+-- whether a position is filtered, with which size and level, and whether its cell has a level at all
+pub record Decision : Type 0 where
+  pub decided : Bool
+  pub present : Bool
+  pub size : ℕ
+  pub level : ℕ
 
 -- the place of the cell at (loopRow, loopCol) among the cells of the superblock row
 unfoldable pub cell_index : Superblock → Pass → (edge i : ℕ) → ℕ

@@ -13,12 +13,11 @@ use Rattle.geometry.specs.Coordinates.{shl, shr}
 use Rattle.geometry.specs.declared.Pass.{Pass}
 use Rattle.geometry.specs.declared.Pass.TheVariants.{Vertical, Horizontal}
 use Rattle.geometry.specs.declared.Superblock.{Superblock}
-use Rattle.decisions.specs.Decision.{cell_index, decision_by, decision}
+use Rattle.decisions.specs.Decision.{Decision, cell_index, decision_by, decision}
 use Rattle.edge_steps.specs.FilterSize.{base_size, at_last, filter_size}
 use Rattle.edge_steps.specs.SuperblockFilter.{multiple, loop_cell, is_block_edge, last_column, is_tx_edge, is32_edge, at_border, on_screen, apply_filter}
 use Rattle.positions.specs.Positions.{luma_x, luma_y}
 use Rattle.pass_edges.specs.PassEdges.{sub, along_sub}
-use Rattle.decisions.specs.declared.Decision.{Decision}
 
 -- a coordinate is compared with the border of a cell by its own cell alone
 leb_cell : (m a b : ℕ) → m % 8 ≡ 0 → a / 8 ≡ b / 8 → leb m a ≡ leb m b

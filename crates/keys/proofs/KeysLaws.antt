@@ -21,8 +21,7 @@ use Rattle.geometry.specs.declared.Superblock.{Superblock}
 use Rattle.pass_edges.specs.PassEdges.{along_sub, edge_count, edge_len, cell_start}
 use Rattle.pass_edges.specs.PassEdgesLaws.{edge_count_small, edge_len_small, cell_first}
 use Rattle.positions.specs.Positions.{Placed, luma_x, luma_y}
-use Rattle.decisions.specs.Decision.{cell_index, decision_by, decision, without_level, levelless}
-use Rattle.decisions.specs.declared.Decision.{Decision}
+use Rattle.decisions.specs.Decision.{Decision, cell_index, decision_by, decision, without_level, levelless}
 use Rattle.decisions.specs.LevellessLaws.{levelless_at_lem, levelless-behind, levelless_cell}
 use Rattle.keys.proofs.EdgeLimitsLaws.{screen_by, block_by, transform_field, transform_by, size_by_limits, index_by}
 use Rattle.keys.specs.Keys.{key_of, key_at, key_in, keys_of}

@@ -3,8 +3,7 @@
 use Rattle.std.specs.Prelude.{◌≡◌, Bool, cond, ◌&&◌, List, ℕ, ◌+◌, ◌*◌, ◌/◌, ◌%◌, ltb}
 use Rattle.base.specs.Filled.{table}
 use Rattle.base.specs.First.{first_found}
-use Rattle.decisions.specs.Decision.{decision, levelless}
-use Rattle.decisions.specs.declared.Decision.{Decision}
+use Rattle.decisions.specs.Decision.{Decision, decision, levelless}
 use Rattle.geometry.specs.declared.Pass.{Pass}
 use Rattle.geometry.specs.declared.Superblock.{Superblock}
 use Rattle.pass_edges.specs.PassEdges.{cell_start, edge_count}

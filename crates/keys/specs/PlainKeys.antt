@@ -4,8 +4,7 @@ use Rattle.std.specs.Prelude.{◌≡◌, Bool, cond, not, ◌&&◌, ◌||◌, Li
 use Rattle.base.specs.Filled.{filled}
 use Rattle.base.specs.First.{first, found}
 use Rattle.cells.specs.Cell.{bit}
-use Rattle.decisions.specs.Decision.{without_level, cell_place}
-use Rattle.decisions.specs.declared.Decision.{Decision}
+use Rattle.decisions.specs.Decision.{Decision, without_level, cell_place}
 use Rattle.geometry.specs.declared.Pass.{Pass}
 use Rattle.geometry.specs.declared.Pass.TheVariants.{Vertical, Horizontal}
 use Rattle.geometry.specs.declared.Superblock.{Superblock}

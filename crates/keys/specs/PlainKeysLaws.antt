@@ -13,8 +13,7 @@ use Rattle.geometry.specs.declared.Superblock.{Superblock}
 use Rattle.positions.specs.Positions.{Placed}
 use Rattle.word_bytes.specs.WordBytes.{bytes_at, words_of}
 use Rattle.word_bytes.specs.WordBytesLaws.{words_of-length, words_of_each}
-use Rattle.decisions.specs.Decision.{without_level}
-use Rattle.decisions.specs.declared.Decision.{Decision}
+use Rattle.decisions.specs.Decision.{Decision, without_level}
 use Rattle.keys.specs.Keys.{key_of}
 use Rattle.keys.specs.PlainKeys.{turned_of, limits_of, plain, field, key_by, lack_by, lack_from, plain_key, plain_lack, base_of, place_from, clamped, word_from, word_in, Small}
 use Rattle.keys.specs.declared.edge_limits.EdgeLimits.{EdgeLimits}

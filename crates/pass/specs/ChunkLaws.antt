@@ -7,9 +7,8 @@ use mathlib.Core.List.{Memᴰ}
 use Rattle.std.proofs.Math.Decide.{dec_lt}
 use Rattle.decided.specs.Decided.{Position, position, Setting, decision_at, is_decided, decided, filters}
 use Rattle.decided.proofs.KeyRunLaws.{key_for_lem, key_level, key_size}
-use Rattle.decisions.specs.Decision.{decision}
+use Rattle.decisions.specs.Decision.{Decision, decision}
 use Rattle.decisions.specs.DecisionLaws.{same_decision, decision_size, decision_level}
-use Rattle.decisions.specs.declared.Decision.{Decision}
 use Rattle.geometry.specs.Coordinates.{shr}
 use Rattle.geometry.specs.declared.Pass.{Pass}
 use Rattle.geometry.specs.declared.Superblock.{Superblock}

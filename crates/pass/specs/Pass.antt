@@ -6,7 +6,7 @@ use Rattle.base.specs.Width.{Width, admits}
 use Rattle.faults.specs.Faults.{numbers_refused, lists_refused}
 use Rattle.positions.specs.Positions.{plane_x, plane_y}
 use Rattle.pass_edges.specs.PassEdges.{pass_of}
-use Rattle.decisions.specs.declared.Decision.{Decision}
+use Rattle.decisions.specs.Decision.{Decision}
 use Rattle.geometry.specs.declared.Pass.{Pass}
 use Rattle.line.specs.SampleFiltering.{sample_filtering}
 use Rattle.order.specs.Order.{run}

@@ -14,8 +14,7 @@ use Rattle.base.specs.Width.{Width, admits}
 use Rattle.cells.specs.Cell.{cell_of}
 use Rattle.bad_words.specs.BadWord.{bad_word, bad_cell}
 use Rattle.decided.specs.Decided.{Position, position, Setting, setting, superblock_of, decision_at, is_decided, decided}
-use Rattle.decisions.specs.Decision.{cell_index, decision_by, decision, without_level, levelless}
-use Rattle.decisions.specs.declared.Decision.{Decision}
+use Rattle.decisions.specs.Decision.{Decision, cell_index, decision_by, decision, without_level, levelless}
 use Rattle.edge_steps.specs.ScreenLaws.{seen, cell_below}
 use Rattle.edge_steps.specs.SuperblockFilter.{on_screen}
 use Rattle.faults.specs.Faults.{lists_refused}

@@ -12,8 +12,7 @@ use Rattle.blocks.specs.ModeInfoLaws.{block}
 use Rattle.cells.specs.Cell.{cell_of, width_log2, height_log2, tx_of, Fields}
 use Rattle.cells.specs.CellLaws.{cell_fields}
 use Rattle.cells.specs.declared.LfCell.{LfCell}
-use Rattle.decisions.specs.Decision.{cell_index, decision_by, decision}
-use Rattle.decisions.specs.declared.Decision.{Decision}
+use Rattle.decisions.specs.Decision.{Decision, cell_index, decision_by, decision}
 use Rattle.edge_steps.specs.FilterSize.{filter_size}
 use Rattle.edge_steps.specs.ScreenLaws.{seen, cell_below, loop_cell_small, loop_cell_from}
 use Rattle.edge_steps.specs.StepsStandard.{loop_col_standard, loop_row_standard, block_edge_standard, tx_edge_standard, edge_32_standard, on_screen_standard, apply_standard, filter_size_standard}

@@ -12,10 +12,9 @@ use Rattle.base.specs.First.{found, found-false}
 use Rattle.base.specs.Notation.{◌>>◌}
 use Rattle.base.specs.Outcome.{accepted}
 use Rattle.decided.specs.Decided.{Position, position, Setting, setting, decision_at, is_decided, decided, superblock_of, setting_of}
-use Rattle.decisions.specs.Decision.{without_level, levelless}
+use Rattle.decisions.specs.Decision.{Decision, without_level, levelless}
 use Rattle.decisions.specs.DecisionLaws.{decision_size}
 use Rattle.decisions.specs.LevellessLaws.{levelless_at_lem}
-use Rattle.decisions.specs.declared.Decision.{Decision}
 use Rattle.geometry.specs.Frame.{cells_from}
 use Rattle.geometry.specs.FrameStandard.{superblock_at, pass_number, Subsampled, sub_x_small, sub_y_small}
 use Rattle.geometry.specs.declared.Pass.{Pass}
