@@ -48,10 +48,10 @@ pub struct Six<T> {
     pub q2: T,
 }
 
-impl Lane<u16> {
-    pub fn of_line(t: &[u16; 16]) -> Lane<u16>
-        ensures { samples_of result ≡ t.now }
-    {
+impl From<&[u16; 16]> for Lane<u16> {
+    ghost from_gives = { λ t r. samples_of r ≡ t.now };
+
+    fn from(t: &[u16; 16]) -> Self {
         Lane {
             p7: t[P7],
             p6: t[P6],

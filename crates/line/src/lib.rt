@@ -30,7 +30,7 @@ use wide_filter::{wide_fourteen, wide_six};
 pub fn sample_filtering_unchecked(t: &mut [u16; 16], size: u8, f: LineStrength)
     ensures { t.new ≡ sample_filtering f.depth.bits size f.limit f.blimit f.thresh t.old }
 {
-    let a = Lane::of_line(t);
+    let a = Lane::from(&*t);
     let depth = f.depth;
     if !filter_mask_unchecked(a, depth.scaled(f.limit), depth.scaled(f.blimit)) {
         return;

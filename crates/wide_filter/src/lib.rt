@@ -61,7 +61,7 @@ impl Sum for u32 {
     ghost value = { λ n. n };
 
     fn of(n: u16) -> u32 {
-        n as u32
+        u32::from(n)
     }
 
     fn plus(self, other: u32) -> u32 {
@@ -69,11 +69,11 @@ impl Sum for u32 {
     }
 
     fn product(x: u16, n: u16) -> u32 {
-        x as u32 * n as u32
+        u32::from(x) * u32::from(n)
     }
 
     fn over(self, n: u16) -> u16 {
-        (self / n as u32) as u16
+        (self / u32::from(n)) as u16
     }
 }
 
@@ -86,6 +86,7 @@ pub fn side_unchecked<S: Sum, const M: usize>(x: [u16; M], y: [u16; M]) -> [u16;
 {
     let n = M - 1;
     let mut near = S::of(M as u16);
+    // No fold: plus asks that the sum fits, and a fold's closure does not know which samples are in the sum that it is given.
     for v in &x[..n] {
         near = near.plus(S::of(*v));
     }

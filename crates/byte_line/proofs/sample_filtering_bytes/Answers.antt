@@ -1,5 +1,5 @@
 use Rattle.std.proofs.Common.{eq-eqb, ne_eqb, ◌≡◌, refl, ◌∙◌, rules}
-use Rattle.base.specs.Width.{Byte, Ranged}
+use Rattle.base.specs.Width.{Byte}
 use Rattle.line.specs.LineWidths.{lent_depth, lent_short, lent_line_lem, byte_size, byte_filtered}
 use Rattle.byte_line.proofs.sample_filtering_bytes.Goals as goal
 

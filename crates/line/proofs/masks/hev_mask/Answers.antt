@@ -1,4 +1,4 @@
-use Rattle.std.proofs.Common.{◌≡◌, ⊎_elim, not, ltb, leb, ℕ, lt-ltb, le-ltb}
+use Rattle.std.proofs.Common.{refl, ◌≡◌, ⊎_elim, not, ltb, leb, ℕ, lt-ltb, le-ltb}
 use Rattle.std.proofs.lemmas.Bool.{lt-leb, le-leb}
 use Rattle.base.specs.NotationLaws.{split}
 use Rattle.line.specs.Masks.{hev_mask}
@@ -10,4 +10,4 @@ above d limit =
 
 pub returns : goal.returns
 unfolding hev_mask
-returns g c = rw (c.near-2.ensures, c.near.ensures, above, above)
+returns g c = rw (c.near-2.ensures, c.near.ensures, above, above) refl
