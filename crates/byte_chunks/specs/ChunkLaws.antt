@@ -4,8 +4,9 @@ use Rattle.std.specs.Prelude.{◌≡◌, refl, Bool, true, false, List, ◌⊎�
 use Rattle.std.specs.List.{fold}
 use Rattle.std.proofs.Common.{sym, ◌∙◌, inl, inr, ⊎_elim, arith, leb-false}
 use Rattle.base.specs.First.{found-false}
-use Rattle.byte_lanes.specs.ByteLanes.{Filtered}
+use Rattle.byte_lanes.specs.ByteLanes.{beyond, Filtered}
 use Rattle.byte_lanes.specs.declared.Changed.{Changed}
+use Rattle.byte_lanes.specs.declared.Changed.TheVariants.{Nothing}
 use Rattle.byte_rows.specs.Rows.{reach}
 use Rattle.lane_runs.specs.LaneRunLaws.{each_lane_stored, each_lane_kept}
 use Rattle.lane_runs.specs.Local.{Local, local_all, local_wider, key_local}
@@ -16,7 +17,7 @@ use Rattle.wide_filter.specs.Taps.{tap}
 use Rattle.window.specs.InsideRun.{plain_lines}
 use Rattle.window.specs.Stencil.{in_turn}
 use Rattle.byte_chunks.specs.Chunk.{any_large}
-use Rattle.byte_chunks.specs.FoundLaws.{fold_found}
+use Rattle.byte_lanes.specs.FoundLaws.{fold_found}
 
 -- as the code looks for one
 pub any_large_fold : (keys : List ℕ) → length keys ≡ 16 → fold (λ on key. on || leb 128 key) false keys ≡ any_large keys
@@ -45,20 +46,20 @@ module _ (at step along n sharpness : ℕ) (keys : List ℕ) (all : Bool) (is : 
   lanes = record { each = λ l h. filtered.lanes.each l (omega (arith, run.few)) }
 
   -- taps that are not loaded do not change
-  within : (b : Bool) → all ≡ b → reach changed.outer ≤ reach b
-  within true e = reach_few changed.outer
+  within : (b : Bool) → all ≡ b → reach (beyond changed) ≤ reach b
+  within true e = reach_few (beyond changed)
   within false e = rw (filtered.large (sym is ∙ e)) (omega arith)
 
-  same : (b : Bool) → changed.outer ≡ b → (l k : ℕ) → l < n → k < 16 → (k + reach b < 8) ⊎ (8 + reach b ≤ k) → tap (lane_of t' l) k ≡ tap (lane_of t l) k
+  same : (b : Bool) → beyond changed ≡ b → (l k : ℕ) → l < n → k < 16 → (k + reach b < 8) ⊎ (8 + reach b ≤ k) → tap (lane_of t' l) k ≡ tap (lane_of t l) k
   same true e l k a b o = absurd (⊎_elim (λ p. omega arith) (λ p. omega arith) o)
   same false e l k a b o =
       filtered.inner e l k (omega (arith, run.few)) (⊎_elim (λ p. inl (omega arith)) (λ p. inr (omega arith)) o)
 
-  pub chunk_run : (u : List ℕ) → Spread at step along n (8 - reach changed.outer) (2 * reach changed.outer) (λ l k. get_or t' (16 * k + l) 0) w u → u ≡ in_turn (plain_lines at step along lines) n w
+  pub chunk_run : (u : List ℕ) → Spread at step along n (8 - reach (beyond changed)) (2 * reach (beyond changed)) (λ l k. get_or t' (16 * k + l) 0) w u → u ≡ in_turn (plain_lines at step along lines) n w
   chunk_run u stored =
-      each_lane_stored lines (reach all) (reach changed.outer) (within all refl) (reach_few all) at step along n local w t t' run loaded lanes (same changed.outer refl) u stored
+      each_lane_stored lines (reach all) (reach (beyond changed)) (within all refl) (reach_few all) at step along n local w t t' run loaded lanes (same (beyond changed) refl) u stored
 
   -- where no lane changes nothing need be stored
-  pub chunk_kept : changed.some ≡ false → w ≡ in_turn (plain_lines at step along lines) n w
+  pub chunk_kept : changed ≡ Nothing → w ≡ in_turn (plain_lines at step along lines) n w
   chunk_kept e =
       each_lane_kept lines (reach all) (reach all) (omega arith) (reach_few all) at step along n local w t t' run loaded lanes (filtered.none e)

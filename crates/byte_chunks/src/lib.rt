@@ -10,8 +10,8 @@ ghost use Rattle.window.specs.Stencil.{in_turn};
 ghost use Rattle.byte_chunks.specs.Chunk.{any_large};
 
 use base::sharpness::Sharpness;
-use byte_lanes::filter_byte_lanes_unchecked;
 use byte_lanes::lane_keys::LaneKeys;
+use byte_lanes::{Changed, filter_byte_lanes};
 use byte_rows::{load_lanes_unchecked, store_lanes_unchecked};
 use tap_places::tap_run::TapRun;
 
@@ -38,8 +38,9 @@ pub fn filter_chunk_unchecked(
     let all = any_large(&keys.of);
     let mut t = [0u8; 256];
     load_lanes_unchecked(&mut t, samples, run, all);
-    let changed = filter_byte_lanes_unchecked(&mut t, keys, sharpness);
-    if changed.some {
-        store_lanes_unchecked(samples, run, &mut t, changed.outer);
+    match filter_byte_lanes(&mut t, keys, sharpness) {
+        Changed::Nothing => {}
+        Changed::Inner => store_lanes_unchecked(samples, run, &mut t, false),
+        Changed::Outer => store_lanes_unchecked(samples, run, &mut t, true),
     }
 }

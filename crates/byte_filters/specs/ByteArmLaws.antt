@@ -6,6 +6,7 @@ use Rattle.std.proofs.Common.{sym, ◌∙◌, subst, inl, inr, ⊎_elim, arith, 
 use Rattle.std.proofs.Math.Bool.{true, false}
 use Rattle.std.proofs.Math.Nat.{mul-one}
 use Rattle.std.proofs.lemmas.Bool.{lt-leb}
+use denote.Enum.Bare.{sameb}
 use Rattle.base.specs.NotationLaws.{split}
 use Rattle.lanes.specs.KeyLine.{key_line}
 use Rattle.line.specs.Masks.{hev_mask, filter_mask, flat_mask, flat_mask2}
@@ -16,7 +17,29 @@ use Rattle.strength.specs.Strength.{limit_of, strength_of}
 use Rattle.wide_filter.specs.Taps.{tap}
 use Rattle.wide_filter.specs.WideFilter.{wide_filter}
 use Rattle.wide_filter.specs.WideFilterLaws.{wide_kept}
-use Rattle.byte_filters.specs.ByteArm.{arm_of, armed}
+use Rattle.byte_filters.specs.ByteArm.{number_of, arm_of, armed}
+use Rattle.byte_filters.specs.contracts.Arm.{the_type}
+use Rattle.byte_filters.specs.declared.Arm.{Arm}
+use Rattle.byte_filters.specs.declared.Arm.TheVariants.{None, Narrow, Six, Fourteen}
+
+-- arms are equal where their numbers are
+pub same_arm : (a b : Arm) → sameb the_type a b ≡ eqb (number_of a) (number_of b)
+same_arm None None = refl
+same_arm None Narrow = refl
+same_arm None Six = refl
+same_arm None Fourteen = refl
+same_arm Narrow None = refl
+same_arm Narrow Narrow = refl
+same_arm Narrow Six = refl
+same_arm Narrow Fourteen = refl
+same_arm Six None = refl
+same_arm Six Narrow = refl
+same_arm Six Six = refl
+same_arm Six Fourteen = refl
+same_arm Fourteen None = refl
+same_arm Fourteen Narrow = refl
+same_arm Fourteen Six = refl
+same_arm Fourteen Fourteen = refl
 
 -- ---- how great an arm is
 

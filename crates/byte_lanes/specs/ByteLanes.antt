@@ -1,6 +1,6 @@
 -- Lanes of bytes: 16 lines side by side in a list of 256, each with a key of its own.
 -- Assumes nothing.
-use Rattle.std.specs.Prelude.{◌≡◌, Bool, false, cond, List, ◌⊎◌, ℕ, ◌%◌, ◌/◌, ◌≤◌, ◌<◌, eqb, leb, length, get_or}
+use Rattle.std.specs.Prelude.{◌≡◌, Bool, true, false, cond, List, ◌⊎◌, ℕ, ◌%◌, ◌/◌, ◌≤◌, ◌<◌, eqb, leb, length, get_or}
 use Rattle.base.specs.First.{found}
 use Rattle.byte_filters.specs.ByteArm.{arm_of}
 use Rattle.lanes.specs.KeyLine.{key_line}
@@ -10,6 +10,7 @@ use Rattle.line.specs.NarrowFilter.{narrow_filter}
 use Rattle.wide_filter.specs.Taps.{tap}
 use Rattle.wide_filter.specs.WideFilter.{wide_filter}
 use Rattle.byte_lanes.specs.declared.Changed.{Changed}
+use Rattle.byte_lanes.specs.declared.Changed.TheVariants.{Nothing, Inner, Outer}
 
 -- each key is that of a size and a level
 pub record Keys (keys : List ℕ) : Type 0 where
@@ -40,13 +41,19 @@ pub record Stage (arm : ℕ) (filter : ℕ → List ℕ → List ℕ) (arms t u 
   pub long : length u ≡ 256
   pub none : on ≡ false → u ≡ t
 
+-- whether taps outside p3 to q3 can change
+abbrev pub beyond : Changed → Bool
+beyond Nothing = false
+beyond Inner = false
+beyond Outer = true
+
 -- of the tables t before and u after: each lane is filtered by its key
 pub record Filtered (sharpness : ℕ) (keys t u : List ℕ) (r : Changed) : Type 0 where
   pub lanes : EachLane 16 (λ l. key_line sharpness 8 (get_or keys l 0)) t u
   pub long : length u ≡ 256
   -- nothing changes
-  pub none : r.some ≡ false → u ≡ t
+  pub none : r ≡ Nothing → u ≡ t
   -- p3 to q3 alone can change
-  pub inner : r.outer ≡ false → (l k : ℕ) → l < 16 → (k < 4) ⊎ (12 ≤ k) → tap (lane_of u l) k ≡ tap (lane_of t l) k
+  pub inner : beyond r ≡ false → (l k : ℕ) → l < 16 → (k < 4) ⊎ (12 ≤ k) → tap (lane_of u l) k ≡ tap (lane_of t l) k
   -- other taps change by a key of size 2 alone
-  pub large : found (λ (l : ℕ). leb 128 (get_or keys l 0)) 16 ≡ false → r.outer ≡ false
+  pub large : found (λ (l : ℕ). leb 128 (get_or keys l 0)) 16 ≡ false → beyond r ≡ false

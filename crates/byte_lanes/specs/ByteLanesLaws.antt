@@ -1,15 +1,23 @@
 -- Laws of lanes of bytes: the lanes of each arm in turn are all lanes by their keys.
 -- Assumes nothing.
-use Rattle.std.specs.Prelude.{◌≡◌, refl, Bool, true, false, ◌||◌, List, ◌⊎◌, ℕ, zero, suc, ◌≤◌, ◌<◌, T, eqb, leb, length, get_or}
+use Rattle.std.specs.Prelude.{◌≡◌, refl, Bool, true, false, ◌||◌, List, map, ◌⊎◌, ℕ, zero, suc, ◌≤◌, ◌<◌, T, eqb, leb, length, get_or}
 use Rattle.std.proofs.Common.{sym, ap, ◌∙◌, subst, arith}
+use Rattle.std.specs.List.{fold}
+use Rattle.std.proofs.lemmas.List.{get_or-map}
 use Rattle.base.specs.First.{found, found_none, found-false}
+use Rattle.base.specs.FirstLaws.{found_same}
 use Rattle.base.specs.Tests.{neither}
-use Rattle.byte_filters.specs.ByteArm.{armed}
+use Rattle.byte_filters.specs.ByteArm.{armed, number_of}
 use Rattle.byte_filters.specs.ByteArmLaws.{arm_small, arm_line, arm_inner, arm_large}
+use Rattle.byte_filters.specs.declared.Arm.{Arm}
+use Rattle.byte_filters.specs.declared.Arm.TheVariants.{None}
 use Rattle.lanes.specs.KeyLine.{key_line}
 use Rattle.lanes.specs.Lanes.{lane_of, EachLane}
 use Rattle.wide_filter.specs.Taps.{tap}
-use Rattle.byte_lanes.specs.ByteLanes.{Keys, ArmsTo, has_arm, arm_lane, narrow_lane, wide_lane, Stage, Filtered}
+use Rattle.byte_lanes.specs.ByteLanes.{Keys, ArmsTo, has_arm, arm_lane, narrow_lane, wide_lane, Stage, beyond, Filtered}
+use Rattle.byte_lanes.specs.FoundLaws.{fold_found}
+use Rattle.byte_lanes.specs.declared.Changed.{Changed}
+use Rattle.byte_lanes.specs.declared.Changed.TheVariants.{Nothing}
 
 -- ---- the lanes of one arm
 
@@ -48,11 +56,10 @@ module _ {sharpness : ℕ} {keys arms t u v w : List ℕ} {four six outer : Bool
   by_key : (l : ℕ) → l < 16 → lane_of w l ≡ key_line sharpness 8 (get_or keys l 0) (lane_of t l)
   by_key l b = by_arm l b ∙ (rw (own.each l b) (arm_line sharpness (get_or keys l 0) (lane_of t l) (small.small l b)))
 
-  kept : four || six || outer ≡ false → w ≡ t
-  kept e =
-      let (inner, last) = neither (four || six) e in
-      let (narrow, wide) = neither four inner in
-      third.none last ∙ second.none wide ∙ first.none narrow
+  kept : (r : Changed) → beyond r ≡ outer → (r ≡ Nothing → four || six ≡ false) → r ≡ Nothing → w ≡ t
+  kept r e f n =
+      let (narrow, wide) = neither four (f n) in
+      third.none (sym e ∙ ap beyond n) ∙ second.none wide ∙ first.none narrow
 
   inner : outer ≡ false → (l k : ℕ) → l < 16 → (k < 4) ⊎ (12 ≤ k) → tap (lane_of w l) k ≡ tap (lane_of t l) k
   inner e l k b out =
@@ -65,6 +72,18 @@ module _ {sharpness : ℕ} {keys arms t u v w : List ℕ} {four six outer : Bool
       ∙ found_none (λ (l : ℕ). eqb (get_or arms l 0) 3) 16
       (λ l b. rw (own.each l b) (arm_large sharpness (get_or keys l 0) (lane_of t l) (found-false (λ (i : ℕ). leb 128 (get_or keys i 0)) 16 e l b)))
 
-  pub lanes_filtered : Filtered sharpness keys t w (record { some = four || six || outer; outer = outer })
-  lanes_filtered =
-      record { lanes = record { each = by_key }; long = third.long; none = kept; inner = inner; large = large }
+  pub lanes_filtered : (r : Changed) → beyond r ≡ outer → (r ≡ Nothing → four || six ≡ false) → Filtered sharpness keys t w r
+  lanes_filtered r e f = record {
+    lanes = record { each = by_key };
+    long = third.long;
+    none = kept r e f;
+    inner = λ o. inner (sym e ∙ o);
+    large = λ h. e ∙ large h;
+  }
+
+-- ---- a search for an arm
+
+pub arms_fold : (arms : List Arm) (arm : ℕ) → length arms ≡ 16 → fold (λ on a. on || eqb (number_of a) arm) false arms ≡ has_arm (map number_of arms) arm
+arms_fold arms arm long =
+    fold_found (λ a. eqb (number_of a) arm) None arms
+    ∙ (rw long (found_same (λ k. eqb (number_of (get_or arms k None)) arm) (λ k. eqb (get_or (map number_of arms) k 0) arm) 16 (λ k h. rw (get_or-map number_of arms k None 0 (omega (arith, long))))))

@@ -1,4 +1,5 @@
-// The keys of 16 lanes.
+// The keys of 16 lanes: bytes and a fact of them all, and no array of `Key`, since they are spread from lists of bytes, and
+// definitions and folds read them as numbers.
 ghost use Rattle.byte_lanes.specs.ByteLanes.{Keys};
 
 #[derive(Clone, Copy)]

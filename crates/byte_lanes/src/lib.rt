@@ -1,10 +1,11 @@
 // The line filter on 16 lanes of bytes at once, each with a key of its own. Loops have no branch, so that they vectorise.
 #![tactic(auto)]
 
-ghost use Rattle.std.specs.Prelude.{◌≡◌, ◌≤◌, ◌<◌, length, get_or, map};
+ghost use Rattle.std.specs.List.{fold};
+ghost use Rattle.std.specs.Prelude.{◌≡◌, ◌<◌, ◌||◌, false, eqb, get_or, map};
 ghost use Rattle.byte_filters.specs.ByteArm.{number_of, arm_of};
-ghost use Rattle.lanes.specs.Lanes.{lane_of, EachLane};
-ghost use Rattle.byte_lanes.specs.ByteLanes.{ArmsTo, has_arm, arm_lane, narrow_lane, wide_lane, Filtered};
+ghost use Rattle.lanes.specs.Lanes.{lane_of};
+ghost use Rattle.byte_lanes.specs.ByteLanes.{ArmsTo, Filtered};
 
 pub mod lane_keys;
 
@@ -16,11 +17,12 @@ use lane_keys::LaneKeys;
 use lanes::table::{each_lane_unchecked, lane_at_unchecked};
 use std::array;
 
-// What filtering changed: some lane, and some tap outside p3 to q3.
-#[derive(Clone, Copy)]
-pub struct Changed {
-    pub some: bool,
-    pub outer: bool,
+// What filtering changed: nothing, taps p3 to q3 alone, or others too.
+#[derive(Clone, Copy, PartialEq, Eq)]
+pub enum Changed {
+    Nothing,
+    Inner,
+    Outer,
 }
 
 // The filter of a lane by its key.
@@ -41,24 +43,16 @@ fn lane_arms(t: &[u8; 256], keys: &LaneKeys, sharpness: Sharpness) -> [Arm; 16]
     array::from_fn(move |l| arm_at(t, keys, sharpness, l))
 }
 
-// Whether a lane gets the filter arm. All are looked at, since a loop that could end early would not vectorise.
+// Whether a lane gets the filter arm. All are looked at, since a loop that could end early, as `any` is, would not vectorise.
+#[tactic(auto, using(byte_filters::specs::ByteArmLaws::same_arm))]
 fn any_arm(arms: &[Arm; 16], arm: Arm) -> bool
-    ensures { result ≡ has_arm (map number_of arms.now) (number_of arm) }
+    ensures { result ≡ fold (λ on a. on || eqb (number_of a) (number_of arm)) false arms.now }
 {
-    let mut on = false;
-    for a in arms {
-        on |= *a == arm;
-    }
-    on
+    arms.iter().fold(false, |on, a| on | (*a == arm))
 }
 
 // Filters each lane by its key. A loop that would change no lane is left out.
-pub fn filter_byte_lanes_unchecked(
-    t: &mut [u8; 256],
-    keys: &LaneKeys,
-    sharpness: Sharpness,
-) -> Changed
-    requires { length t.old ≡ 256 }
+pub fn filter_byte_lanes(t: &mut [u8; 256], keys: &LaneKeys, sharpness: Sharpness) -> Changed
     ensures { Filtered sharpness.level keys.now.of t.old t.new result }
 {
     let arms = lane_arms(t, keys, sharpness);
@@ -75,9 +69,11 @@ pub fn filter_byte_lanes_unchecked(
     }
     if outer {
         each_lane_unchecked(t, 16, |a: Lane<u8>, l: usize| byte_fourteen(a, arms[l]));
+        return Changed::Outer;
     }
-    Changed {
-        some: four | six | outer,
-        outer,
+    if four | six {
+        Changed::Inner
+    } else {
+        Changed::Nothing
     }
 }

@@ -1,4 +1,4 @@
-use Rattle.std.proofs.Common.{rules, ◌∙◌}
+use Rattle.std.proofs.Common.{refl, rules, ◌∙◌}
 use Rattle.window.specs.StencilLaws.{in_turn_none}
 use Rattle.byte_chunks.specs.ChunkLaws.{any_large_fold, chunk_run, chunk_kept}
 use Rattle.byte_chunks.proofs.filter_chunk_unchecked.Goals as goal
@@ -6,12 +6,17 @@ use Rattle.byte_chunks.proofs.filter_chunk_unchecked.Goals as goal
 pub returns-then-run-eq0 : goal.returns-then-run-eq0
 returns-then-run-eq0 c = rw c.if-run-eq0.true (in_turn_none _ _)
 
-pub returns-then-changed : goal.returns-then-changed
-returns-then-changed c =
+pub returns-in-Nothing : goal.returns-in-Nothing
+returns-in-Nothing c =
     let a = c.args in
-    chunk_run a.run.at a.run.step a.run.along a.run.n a.sharpness.level a.keys.now.of _ (c.any_large-all.ensures ∙ any_large_fold _ (search rules)) a.samples.now _ _ _ c.requires c.load_lanes_unchecked.ensures.0 c.filter_byte_lanes_unchecked-changed.ensures _ c.store_lanes_unchecked.ensures
+    chunk_kept a.run.at a.run.step a.run.along a.run.n a.sharpness.level a.keys.now.of _ (c.any_large-all.ensures ∙ any_large_fold _ (search rules)) a.samples.now _ _ _ c.requires c.load_lanes_unchecked.ensures.0 c.in-Nothing.ensures refl
 
-pub returns-else-changed : goal.returns-else-changed
-returns-else-changed c =
+pub returns-in-Inner : goal.returns-in-Inner
+returns-in-Inner c =
     let a = c.args in
-    chunk_kept a.run.at a.run.step a.run.along a.run.n a.sharpness.level a.keys.now.of _ (c.any_large-all.ensures ∙ any_large_fold _ (search rules)) a.samples.now _ _ _ c.requires c.load_lanes_unchecked.ensures.0 c.filter_byte_lanes_unchecked-changed.ensures c.if-changed.false
+    chunk_run a.run.at a.run.step a.run.along a.run.n a.sharpness.level a.keys.now.of _ (c.any_large-all.ensures ∙ any_large_fold _ (search rules)) a.samples.now _ _ _ c.requires c.load_lanes_unchecked.ensures.0 c.in-Inner.ensures _ c.store_lanes_unchecked.ensures
+
+pub returns-in-Outer : goal.returns-in-Outer
+returns-in-Outer c =
+    let a = c.args in
+    chunk_run a.run.at a.run.step a.run.along a.run.n a.sharpness.level a.keys.now.of _ (c.any_large-all.ensures ∙ any_large_fold _ (search rules)) a.samples.now _ _ _ c.requires c.load_lanes_unchecked.ensures.0 c.in-Outer.ensures _ c.store_lanes_unchecked-in-Outer.ensures

@@ -3,9 +3,6 @@ use Rattle.byte_filters.specs.ByteArm.{arm_of}
 use Rattle.lanes.specs.LanesLaws.{lane_found, lane_samples}
 use Rattle.byte_lanes.proofs.arm_at.Goals as goal
 
-pub lane_arm-requires : goal.lane_arm-requires
-lane_arm-requires c = c.args.keys.now.keyed.small c.args.l c.requires
-
 pub returns : goal.returns
 returns c =
     let t = c.args.t.now in
