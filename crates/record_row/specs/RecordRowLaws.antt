@@ -1,8 +1,7 @@
 -- Laws of the row's records: what a row that was not refused has, and the row's answer said of the records.
 -- Assumes nothing.
-use Rattle.std.specs.Prelude.{◌≡◌, refl, Bool, true, false, not, List, ◌∷◌, ℕ, zero, suc, ◌≤◌, ◌<◌, min, eqb, ltb, length, take, replicate}
+use Rattle.std.specs.Prelude.{◌≡◌, refl, Bool, true, false, not, List, ◌∷◌, ℕ, zero, suc, ◌≤◌, ◌<◌, eqb, ltb, length, take, replicate}
 use Rattle.std.proofs.Common.{◌∙◌, ap, subst, le_of_suc-le-suc, not-suc-le-zero, arith, lit<, length-set, get_or-take, ltb-false}
-use Rattle.std.proofs.lemmas.List.{length-replicate}
 use Rattle.std.proofs.lemmas.Bool.{not-false}
 use Rattle.base.specs.Depth.{supported}
 use Rattle.base.specs.Fault.{number_of, place_of}
@@ -117,7 +116,3 @@ module _ (m : ModeInfo) (levels : List ℕ) (p : RowNumbers) (ws : List ℕ) whe
   replaced j rs zs len s =
       let d = passed_row s.0 in
       in_part (row_with m levels p ws) _ (cells_in p) j rs zs d.result (subst (λ (k : ℕ). cells_in p ≤ k) len d.lent) s.1
-
--- the words that the records are lent
-pub lent_words : (n k : ℕ) → take {A = ℕ} (min n (length {A = ℕ} (replicate k 0))) (replicate k 0) ≡ replicate (min n k) 0
-lent_words n k = rw (length-replicate {A = ℕ} k 0) (take-replicate (min n k) k (omega arith))
