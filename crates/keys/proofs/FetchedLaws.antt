@@ -5,9 +5,10 @@ use Rattle.std.proofs.Math.Path.{sym}
 use Rattle.std.proofs.Common.{ap, ◌∙◌, subst, arith}
 use Rattle.std.proofs.Math.Decide.{dec_lt}
 use Rattle.std.proofs.lemmas.Grind.{common_steps}
-use Rattle.base.specs.First.{first, found, first_found, found_none, found-false, First, first_is, first_small}
+use Rattle.base.specs.First.{first, found, found_none, found-false, First, first_is, first_small}
 use Rattle.base.specs.FirstLaws.{first_same, found_same}
-use Rattle.decisions.specs.Decision.{levelless, cell_place}
+use Rattle.base.specs.Tests.{neither}
+use Rattle.decisions.specs.Decision.{without_level, levelless, cell_place}
 use Rattle.decisions.specs.LevellessLaws.{levelless_at_lem, first_cells}
 use Rattle.geometry.specs.Frame.{cells_from}
 use Rattle.geometry.specs.declared.Pass.{Pass}
@@ -16,13 +17,50 @@ use Rattle.pass_edges.specs.PassEdges.{along_sub, edge_count, cell_start}
 use Rattle.pass_edges.specs.PassEdgesLaws.{cell_first}
 use Rattle.positions.specs.Positions.{Placed}
 use Rattle.keys.specs.Keys.{Told}
-use Rattle.keys.proofs.KeysLaws.{same_false, edge_pairs, lack_by_lem, word_at, keys_by, lacks_by}
-use Rattle.keys.specs.PlainKeys.{turned_of, pairs, lack_at, place_by, fetched, PlainTold}
+use Rattle.keys.proofs.KeysLaws.{edge_pairs, lack_by_lem, word_at, keys_by}
+use Rattle.keys.specs.PlainKeys.{turned_of, pairs, limits_in, plain_in, lack_by, plain_lack, lack_at, fetched, PlainTold}
 use Rattle.keys.specs.declared.edge_keys.Keys.{Keys}
+use Rattle.keys.specs.declared.turned.Turned.{Turned}
 
 turned_paired : (s : Superblock) (pass : Pass) (chroma : Bool) → (turned_of s pass chroma).paired ≡ along_sub s pass
 unfolding turned_of
 turned_paired s pass chroma = grind (arith, common_steps)
+
+-- two tests, of which one does not hold where the other does not
+same_false : (a b : Bool) → (b ≡ false → a ≡ false) → (a ≡ false → b ≡ false) → a ≡ b
+same_false a b f g = grind (arith, common_steps)
+
+-- cell k of the pairs is two of the edges' cells
+module _ (t : Turned) (words : List ℕ) where
+  lack_of_pair : (parity k : ℕ) → parity < 2 → lack_at t words (16 * (k / 8) + 8 * parity + k % 8) ≡ without_level (plain_in (limits_in t parity k) t.log t.tx words k)
+  unfolding lack_at
+  lack_of_pair parity k l =
+      let at = 16 * (k / 8) + 8 * parity + k % 8 in
+      let edge : at / 8 ≡ 2 * (k / 8) + parity = omega arith in
+      let place : 8 * (at / 16) + at % 8 ≡ k = omega arith in
+      rw (edge, place)
+
+  pairs_told : found (plain_lack t words) (8 * pairs t.sub) ≡ found (lack_at t words) (16 * pairs t.sub)
+  unfolding plain_lack lack_by
+  pairs_told = same_false _ _ (λ e. found_none (plain_lack t words) _ (none_lack e)) (λ e. found_none (lack_at t words) _ (none_told e))
+    where
+      none_lack : found (lack_at t words) (16 * pairs t.sub) ≡ false → (k : ℕ) → k < 8 * pairs t.sub → plain_lack t words k ≡ false
+      none_lack e k h =
+          let none = found-false (lack_at t words) (16 * pairs t.sub) e in
+          rw (← lack_of_pair 0 k (omega arith), ← lack_of_pair 1 k (omega arith), none (16 * (k / 8) + 8 * 0 + k % 8) (omega arith), none (16 * (k / 8) + 8 * 1 + k % 8) (omega arith))
+
+      none_told : found (plain_lack t words) (8 * pairs t.sub) ≡ false → (j : ℕ) → j < 16 * pairs t.sub → lack_at t words j ≡ false
+      none_told e j h = go (dec_lt (j / 8 % 2) 1)
+        where
+          k : ℕ
+          k = 8 * (j / 16) + j % 8
+
+          both : (without_level (plain_in (limits_in t 0 k) t.log t.tx words k) ≡ false) × (without_level (plain_in (limits_in t 1 k) t.log t.tx words k) ≡ false)
+          both = neither _ (found-false (plain_lack t words) (8 * pairs t.sub) e k (omega arith))
+
+          go : Dec (j / 8 % 2 < 1) → lack_at t words j ≡ false
+          go (yes q) = let is : j ≡ 16 * (k / 8) + 8 * 0 + k % 8 = omega arith in rw is (lack_of_pair 0 k (omega arith) ∙ both.0)
+          go (no q) = let is : j ≡ 16 * (k / 8) + 8 * 1 + k % 8 = omega arith in rw is (lack_of_pair 1 k (omega arith) ∙ both.1)
 
 -- the first positions of the cells of n edges, and all their positions
 found_cells : (s : Superblock) (pass : Pass) (chroma : Bool) (cells : List ℕ) (n : ℕ)
@@ -92,14 +130,11 @@ module _ (s : Superblock) (pass : Pass) (chroma : Bool) (cells : List ℕ) (p : 
       let count : 16 * pairs t.sub ≡ 8 * edge_count s pass = omega (arith, edge_pairs s pass chroma) in
       ap (λ (n : ℕ). found (lack_at t words) n) count ∙ found_same (lack_at t words) _ (8 * edge_count s pass) lack_at_lem ∙ found_cells s pass chroma cells (edge_count s pass)
 
-  place_told : place_by (turned_of s pass chroma) words ≡ first_found (levelless s pass chroma cells) (64 * edge_count s pass)
-  place_told = rw (found_told, first_told)
-
   pub told : (r : Keys) → PlainTold (turned_of s pass chroma) words r → Told s pass chroma cells r
   told r plain = (
     plain.0 ∙ keys_by s pass chroma cells p lent words are 0 (omega arith),
     plain.1 ∙ keys_by s pass chroma cells p lent words are 1 (omega arith),
-    plain.2 ∙ (rw (lacks_by s pass chroma cells p lent words are, place_told) (twice (found (levelless s pass chroma cells) (64 * edge_count s pass)) (first (levelless s pass chroma cells) (64 * edge_count s pass)))),
+    plain.2 ∙ (rw (pairs_told, found_told, first_told) (twice (found (levelless s pass chroma cells) (64 * edge_count s pass)) (first (levelless s pass chroma cells) (64 * edge_count s pass)))),
   )
     where
       twice : (b : Bool) (x : ℕ) → cond b (cond b (Some x) None) None ≡ cond b (Some x) None

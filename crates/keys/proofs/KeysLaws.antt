@@ -1,31 +1,26 @@
 -- Keys by plain numbers are the keys of the decisions, and a level lacks where a position decides so.
 -- Assumes nothing.
-use Rattle.std.specs.Prelude.{◌≡◌, Bool, ◌||◌, List, ℕ, ◌+◌, ◌*◌, ◌/◌, ◌%◌, ◌≤◌, ◌<◌, length, get_or, replicate}
+use Rattle.std.specs.Prelude.{◌≡◌, Bool, List, ℕ, ◌+◌, ◌*◌, ◌/◌, ◌%◌, ◌≤◌, ◌<◌, length, get_or, replicate}
 use Rattle.std.proofs.Math.Path.{sym}
 use Rattle.std.proofs.Common.{◌∙◌, inr, zero-add, arith, ext_get_or, take_all, le-ltb}
-use Rattle.std.proofs.Math.Bool.{true, false}
+use Rattle.std.proofs.Math.Bool.{true}
 use Rattle.std.proofs.lemmas.Grind.{common_steps}
 use Rattle.std.proofs.Math.Decide.{dec_lt}
 use Rattle.std.proofs.lemmas.List.{length-replicate, get_or-replicate}
 use Rattle.base.specs.Filled.{filled, table, filled_at, filled_other, filled_same, length-filled, take-filled}
-use Rattle.base.specs.First.{found, found_none, found-false}
-use Rattle.base.specs.FirstLaws.{found_same}
-use Rattle.base.specs.Tests.{neither}
 use Rattle.cells.specs.Cell.{cell_of}
 use Rattle.edge_steps.specs.ScreenLaws.{seen, cell_below}
 use Rattle.edge_steps.specs.SuperblockFilter.{on_screen, apply_filter}
-use Rattle.geometry.specs.Coordinates.{shr}
 use Rattle.geometry.specs.Frame.{cells_from}
 use Rattle.geometry.specs.declared.Pass.{Pass}
 use Rattle.geometry.specs.declared.Superblock.{Superblock}
-use Rattle.pass_edges.specs.PassEdges.{along_sub, edge_count, edge_len, cell_start}
-use Rattle.pass_edges.specs.PassEdgesLaws.{edge_count_small, edge_len_small, cell_first}
+use Rattle.pass_edges.specs.PassEdges.{edge_count, cell_start}
+use Rattle.pass_edges.specs.PassEdgesLaws.{edge_count_small, cell_first}
 use Rattle.positions.specs.Positions.{Placed, luma_x, luma_y}
-use Rattle.decisions.specs.Decision.{Decision, cell_index, decision_by, decision, without_level, levelless}
-use Rattle.decisions.specs.LevellessLaws.{levelless_at_lem, levelless-behind, levelless_cell}
+use Rattle.decisions.specs.Decision.{Decision, cell_index, decision_by, decision, without_level}
 use Rattle.keys.proofs.EdgeLimitsLaws.{screen_by, block_by, transform_field, transform_by, size_by_limits, index_by}
 use Rattle.keys.specs.Keys.{key_of, key_at, key_in, keys_of}
-use Rattle.keys.specs.PlainKeys.{turned_of, pairs, limits_of, plain, field, key_by, lack_by, plain_key, plain_lack, word_from, word_in}
+use Rattle.keys.specs.PlainKeys.{turned_of, pairs, limits_of, plain, field, key_by, plain_key, word_from, word_in}
 use Rattle.keys.specs.declared.turned.Turned.{Turned}
 
 -- two edges to a pair
@@ -67,19 +62,6 @@ plain_of t cells parity k =
 
 abbrev lacks_in : Superblock → Pass → (chroma : Bool) (cells : List ℕ) (parity k : ℕ) → Bool
 lacks_in s pass chroma cells parity k = without_level (decision s pass chroma cells (2 * (k / 8) + parity) (cell_start s pass (k % 8)))
-
-abbrev lacks_pair : Superblock → Pass → (chroma : Bool) (cells : List ℕ) (k : ℕ) → Bool
-lacks_pair s pass chroma cells k = lacks_in s pass chroma cells 0 k || lacks_in s pass chroma cells 1 k
-
--- two tests, of which one does not hold where the other does not
-pub same_false : (a b : Bool) → (b ≡ false → a ≡ false) → (a ≡ false → b ≡ false) → a ≡ b
-same_false a b f g = grind (arith, common_steps)
-
--- position i of an edge is one of its 8 cells'
-cell_of_lem : (s : Superblock) (pass : Pass) (i : ℕ) → i < edge_len s pass → let n = shr 8 (along_sub s pass) in
-    (i / n < 8) × (i ≡ shr (8 * (i / n)) (along_sub s pass) + i % n) × (i % n < n)
-unfolding edge_len
-cell_of_lem s pass i h = grind (arith, common_steps)
 
 module _ (s : Superblock) (pass : Pass) (chroma : Bool) (cells : List ℕ) (p : Placed s) where
   -- a cell decides by the limits of its edge
@@ -146,54 +128,3 @@ module _ (s : Superblock) (pass : Pass) (chroma : Bool) (cells : List ℕ) (p : 
       where
         behind : (k : ℕ) → 8 * pairs (turned_of s pass chroma).sub ≤ k → key_in s pass chroma cells parity k ≡ 0
         behind k b = rw (le-ltb (2 * (k / 8) + parity) (edge_count s pass) (omega (arith, edge_pairs s pass chroma)))
-
-    pair_lacks : (k : ℕ) → k < 8 * pairs (turned_of s pass chroma).sub → plain_lack (turned_of s pass chroma) words k ≡ lacks_pair s pass chroma cells k
-    unfolding plain_lack lack_by
-    pair_lacks k b =
-        rw (word_at k b, lack_by_lem lent k 0 (omega arith) (omega (arith, edge_pairs s pass chroma)), lack_by_lem lent k 1 (omega arith) (omega (arith, edge_pairs s pass chroma)))
-
-    -- a cell that decides without level is one of a pair's
-    none_lacks : found (lacks_pair s pass chroma cells) (8 * pairs (turned_of s pass chroma).sub) ≡ false → (edge c : ℕ) → edge < edge_count s pass → c < 8
-        → without_level (decision s pass chroma cells edge (cell_start s pass c)) ≡ false
-    none_lacks none edge c h l =
-        let pair : (8 * (edge / 2) + c) / 8 ≡ edge / 2 = omega arith in
-        let cell : (8 * (edge / 2) + c) % 8 ≡ c = omega arith in
-        let both = neither (lacks_in s pass chroma cells 0 (8 * (edge / 2) + c)) (found-false (lacks_pair s pass chroma cells) _ none (8 * (edge / 2) + c) (omega (arith, edge_pairs s pass chroma))) in
-        go (rw (pair, cell) at both.0) (rw (pair, cell) at both.1) (dec_lt (edge % 2) 1)
-      where
-        go : without_level (decision s pass chroma cells (2 * (edge / 2) + 0) (cell_start s pass c)) ≡ false → without_level (decision s pass chroma cells (2 * (edge / 2) + 1) (cell_start s pass c)) ≡ false
-            → Dec (edge % 2 < 1) → without_level (decision s pass chroma cells edge (cell_start s pass c)) ≡ false
-        go outer inner (yes q) = let e : 2 * (edge / 2) + 0 ≡ edge = omega arith in rw e at outer
-        go outer inner (no q) = let e : 2 * (edge / 2) + 1 ≡ edge = omega arith in rw e at inner
-
-    -- and each position is one of a cell
-    none_levelless : found (lacks_pair s pass chroma cells) (8 * pairs (turned_of s pass chroma).sub) ≡ false → (edge i : ℕ) → edge < edge_count s pass → i < 64
-        → levelless s pass chroma cells (64 * edge + i) ≡ false
-    none_levelless none edge i h b = go (dec_lt i (edge_len s pass))
-      where
-        go : Dec (i < edge_len s pass) → levelless s pass chroma cells (64 * edge + i) ≡ false
-        go (yes q) =
-            let at = cell_of_lem s pass i q in
-            rw at.1
-            (levelless_cell s pass chroma cells edge (i / shr 8 (along_sub s pass)) (i % shr 8 (along_sub s pass)) at.0 at.2
-            ∙ levelless_at_lem s pass chroma cells edge _ (cell_first s pass _ at.0)
-            ∙ none_lacks none edge (i / shr 8 (along_sub s pass)) h at.0)
-        go (no q) = levelless-behind s pass chroma cells edge i (omega arith) b
-
-    pub lacks_by : found (plain_lack (turned_of s pass chroma) words) (8 * pairs (turned_of s pass chroma).sub) ≡ found (levelless s pass chroma cells) (64 * edge_count s pass)
-    lacks_by =
-        found_same (plain_lack (turned_of s pass chroma) words) (lacks_pair s pass chroma cells) _ pair_lacks
-        ∙ same_false _ _ some_lacks
-        (λ none. found_none (levelless s pass chroma cells) (64 * edge_count s pass) (λ j b.
-        let place : j ≡ 64 * (j / 64) + j % 64 = omega arith in
-        rw place (none_levelless none (j / 64) (j % 64) (omega arith) (omega arith))))
-      where
-        at_cell_lem : found (levelless s pass chroma cells) (64 * edge_count s pass) ≡ false → (parity k : ℕ) → parity < 2 → k < 8 * pairs (turned_of s pass chroma).sub → lacks_in s pass chroma cells parity k ≡ false
-        at_cell_lem none parity k l b =
-            let on = cell_first s pass (k % 8) (omega arith) in
-            let small = edge_len_small s pass in
-            sym (levelless_at_lem s pass chroma cells (2 * (k / 8) + parity) (cell_start s pass (k % 8)) on)
-            ∙ found-false (levelless s pass chroma cells) (64 * edge_count s pass) none (64 * (2 * (k / 8) + parity) + cell_start s pass (k % 8)) (omega (arith, edge_pairs s pass chroma))
-
-        some_lacks : found (levelless s pass chroma cells) (64 * edge_count s pass) ≡ false → found (lacks_pair s pass chroma cells) (8 * pairs (turned_of s pass chroma).sub) ≡ false
-        some_lacks none = found_none (lacks_pair s pass chroma cells) _ (λ k b. rw (at_cell_lem none 0 k (omega arith) b, at_cell_lem none 1 k (omega arith) b))
