@@ -2,6 +2,7 @@
 -- Assumes nothing.
 use Rattle.std.specs.Prelude.{◌≡◌, Bool, cond, ℕ, ◌+◌, ◌*◌, ◌≤◌, ◌<◌}
 use Rattle.std.proofs.Common.{◌∙◌, arith, ltb-true, ltb-false, refl, sym, ap, true, false, List, [], ◌∷◌}
+use Rattle.std.proofs.lemmas.Grind.{common_steps}
 use mathlib.Core.List.{Memᴰ}
 use Rattle.geometry.specs.Coordinates.{shr}
 use Rattle.geometry.specs.declared.Pass.{Pass}
@@ -35,11 +36,7 @@ pub record Next (x y : EdgeRun) : Type 0 where
   pub first : x.edge ≡ y.edge → x.first + x.count ≤ y.first
 
 apart_joins : (a b : EdgeRun) → (Joins a b → ⊥) → joins a b ≡ false
-apart_joins a b n = by (joins a b) refl
-  where
-    by : (t : Bool) → joins a b ≡ t → t ≡ false
-    by true e = absurd (n (joins_true a b e))
-    by false e = refl
+apart_joins a b n = grind (arith, common_steps, joins_true)
 
 -- over the cell between them two runs are not joined
 next_gap : (a b x : EdgeRun) → Next a b → 0 < b.count → Next b x → Joins a x → ⊥
@@ -104,12 +101,10 @@ kept (b ∷ l) some next =
 -- ---- the cells of a pass
 
 later : (i j : ℕ) (sub : Bool) → i < j → shr (8 * i) sub + shr 8 sub ≤ shr (8 * j) sub
-later i j true h = omega arith
-later i j false h = omega arith
+later i j sub h = grind (arith, common_steps)
 
 some_long : (sub : Bool) → 0 < shr 8 sub
-some_long true = omega arith
-some_long false = omega arith
+some_long sub = grind (arith, common_steps)
 
 -- however their sizes and levels are made
 module _ (s : Superblock) (pass : Pass) (mk : (edge c : ℕ) → EdgeRun) (edge : (e c : ℕ) → (mk e c).edge ≡ e)

@@ -1,12 +1,12 @@
 -- The runs that keys make are the runs of the pass (`key_runs_lem`).
 -- Assumes nothing.
-use Rattle.std.specs.Prelude.{◌≡◌, Bool, ◌&&◌, ℕ, zero, suc, ◌+◌, ◌*◌, ◌/◌, ◌%◌, ◌≤◌, ◌<◌, length, get_or}
-use Rattle.std.proofs.Common.{◌∙◌, ⊎_elim, eq-or-lt_of_le, le_of_suc-le-suc, not-suc-le-zero, length-append, refl, sym, ap, true, false, cond, List, [], ◌∷◌, ◌++◌, arith, ltb-true, ltb-false, lt-ltb, eqb-true, ltb, eqb}
+use Rattle.std.specs.Prelude.{◌≡◌, Bool, ℕ, zero, suc, ◌+◌, ◌*◌, ◌/◌, ◌%◌, ◌≤◌, ◌<◌, get_or, replicate}
+use Rattle.std.proofs.Common.{◌∙◌, get_or-take, zero-add, refl, sym, ap, true, false, cond, List, ◌∷◌, ◌++◌, arith, ltb-true, lt-ltb, eqb-true, ltb, eqb}
 use Rattle.std.proofs.lemmas.Bool.{eqb-false}
-use Rattle.std.proofs.Math.ListN.{get_or-append}
-use Rattle.std.proofs.lemmas.List.{get_or_at}
-use Rattle.base.specs.Filled.{table}
-use Rattle.decisions.specs.Decision.{Decision, decision}
+use Rattle.std.proofs.lemmas.List.{length-replicate}
+use Rattle.std.proofs.lemmas.Grind.{common_steps}
+use Rattle.base.specs.Filled.{filled, table, filled_at, take-filled}
+use Rattle.decisions.specs.Decision.{decision}
 use Rattle.decisions.specs.DecisionLaws.{decision_size, decision_level}
 use Rattle.geometry.specs.CoordinatesLaws.{shr_small}
 use Rattle.geometry.specs.declared.Pass.{Pass}
@@ -48,55 +48,33 @@ run_small s pass key edge c h he hc =
 
 -- ---- the entries of a table
 
-length-table : (f : ℕ → ℕ) (n : ℕ) → length (table f n) ≡ n
-unfolding table
-length-table f zero = refl
-length-table f (suc n) = length-append (table f n) (f n ∷ []) ∙ (rw (length-table f n) (omega arith))
-
 table_at : (f : ℕ → ℕ) (n k : ℕ) → k < n → get_or (table f n) k 0 ≡ f k
-unfolding table
-table_at f zero k h = absurd (not-suc-le-zero h)
-table_at f (suc n) k h =
-    ⊎_elim
-    (λ (e : k ≡ n). rw e (get_or_at (table f n) (f n) [] 0 n (length-table f n)))
-    (λ (l : k < n). get_or-append (table f n) (f n ∷ []) 0 k (omega (arith, length-table f n)) ∙ table_at f n k l)
-    (eq-or-lt_of_le (le_of_suc-le-suc h))
+table_at f n k h =
+    let size = length-replicate {A = ℕ} n 0 in
+    let same = take-filled f n (replicate n 0) (omega arith) in
+    let at = filled_at f 0 n (replicate n 0) k h (omega arith) in
+    rw (← same, get_or-take n (filled f 0 n (replicate n 0)) k 0 h) (rw (zero-add k) at at)
 
 -- ---- a key's level is the decision's, and its size where that filters
 
 module _ (d : Decision) (size : d.size ≤ 2) (level : d.level ≤ 63) where
   pub key_level : key_of d % 64 ≡ level_of d
   unfolding key_of
-  key_level = by d.decided (ltb 0 d.level) refl
-    where
-      by : (b t : Bool) → ltb 0 d.level ≡ t → cond (b && t) (64 * d.size + d.level) 0 % 64 ≡ cond b d.level 0
-      by false t e = refl
-      by true false e = omega (arith, ltb-false 0 d.level e)
-      by true true e = omega arith
+  key_level = grind (arith, common_steps)
 
   pub key_size : 0 < level_of d → key_of d / 64 ≡ d.size
   unfolding key_of
-  key_size = by d.decided (ltb 0 d.level) refl
-    where
-      by : (b t : Bool) → ltb 0 d.level ≡ t → 0 < cond b d.level 0 → cond (b && t) (64 * d.size + d.level) 0 / 64 ≡ d.size
-      by false t e h = absurd (omega arith)
-      by true false e h = absurd (omega (arith, ltb-false 0 d.level e))
-      by true true e h = omega arith
+  key_size h = grind (arith, common_steps)
 
 module _ (s : Superblock) (pass : Pass) (chroma : Bool) (cells : List ℕ) where
-  list_at : (parity k : ℕ) → k < 64 → get_or (keys_of s pass chroma cells parity) k 0 ≡ key_in s pass chroma cells parity k
-  unfolding keys_of
-  list_at parity k h = table_at (key_in s pass chroma cells parity) 64 k h
-
   -- cell c of edge 2 * e + parity
   list_key : (parity e c : ℕ) → 2 * e + parity < edge_count s pass → c < 8
       → get_or (keys_of s pass chroma cells parity) (8 * e + c) 0 ≡ key_at s pass chroma cells (2 * e + parity) c
-  unfolding key_in
+  unfolding keys_of key_in
   list_key parity e c h k =
-      let small = edge_count_small s pass in
       let row : (8 * e + c) / 8 ≡ e = omega arith in
       let column : (8 * e + c) % 8 ≡ c = omega arith in
-      list_at parity (8 * e + c) (omega arith) ∙ (rw (row, column, lt-ltb (2 * e + parity) (edge_count s pass) h))
+      table_at (key_in s pass chroma cells parity) 64 (8 * e + c) (omega (arith, edge_count_small s pass)) ∙ (rw (row, column, lt-ltb (2 * e + parity) (edge_count s pass) h))
 
   module _ (outer inner : List ℕ) (even : outer ≡ keys_of s pass chroma cells 0) (odd : inner ≡ keys_of s pass chroma cells 1) where
     pub key_for_lem : (edge c : ℕ) → edge < edge_count s pass → c < 8 → key_for outer inner edge c ≡ key_at s pass chroma cells edge c

@@ -1,7 +1,8 @@
 -- Laws of the cells of a pass as runs, and of what joining makes of them: which positions they have, and how these are decided.
 -- Assumes nothing.
-use Rattle.std.specs.Prelude.{◌≡◌, ◌⊎◌, Bool, true, false, cond, ltb}
+use Rattle.std.specs.Prelude.{◌≡◌, ◌⊎◌, Bool, cond, ltb}
 use Rattle.std.proofs.Common.{◌∙◌, inl, inr, refl, sym, ap, List, [], ◌++◌, ℕ, zero, suc, ◌+◌, ◌-◌, ◌*◌, ◌%◌, ◌≤◌, ◌<◌, arith}
+use Rattle.std.proofs.lemmas.Grind.{common_steps}
 use mathlib.Core.List.Memᴰ
 use mathlib.Core.List.{Memᴰ}
 use Rattle.decisions.specs.DecisionLaws.{same_decision}
@@ -20,29 +21,23 @@ use Rattle.decided.specs.declared.EdgeRun.{EdgeRun}
 -- ---- where cells start along an edge, and how long they are
 
 start_none : (sub : Bool) → shr (8 * 0) sub ≡ 0
-start_none true = refl
-start_none false = refl
+start_none sub = grind (arith, common_steps)
 
 start_next : (c : ℕ) (sub : Bool) → shr (8 * suc c) sub ≡ shr (8 * c) sub + shr 8 sub
-start_next c true = omega arith
-start_next c false = omega arith
+start_next c sub = grind (arith, common_steps)
 
 some_cell : (sub : Bool) → 0 < shr 8 sub
-some_cell true = omega arith
-some_cell false = omega arith
+some_cell sub = grind (arith, common_steps)
 
 whole_cell : (sub : Bool) → shr 8 sub % shr 8 sub ≡ 0
-whole_cell true = refl
-whole_cell false = refl
+whole_cell sub = grind (arith, common_steps)
 
 whole_more : (sub : Bool) (m n : ℕ) → m % shr 8 sub ≡ 0 → n % shr 8 sub ≡ 0 → (m + n) % shr 8 sub ≡ 0
-whole_more true m n g h = omega arith
-whole_more false m n g h = omega arith
+whole_more sub m n g h = grind (arith, common_steps)
 
 -- below 16 there is room for one more
 pub whole_room : (sub : Bool) (n : ℕ) → n % shr 8 sub ≡ 0 → n < 16 → n + shr 8 sub ≤ 16
-whole_room true n h l = omega arith
-whole_room false n h l = omega arith
+whole_room sub n h l = grind (arith, common_steps)
 
 -- what a run of size n and level m says of the decision at each of its positions
 pub record Says (n m : ℕ) (d : Decision) : Type 0 where

@@ -1,8 +1,8 @@
 -- Laws of joining, for any list of runs: what a list of joined runs has in common with the list that it comes from.
 -- Assumes nothing.
-use Rattle.std.specs.Prelude.{◌≡◌, refl, ◌⊎◌, Bool, true, false, cond, ℕ, suc, ◌+◌, ◌≤◌, eqb, leb, length}
-use Rattle.std.proofs.Common.{sym, ap, ◌∙◌, inl, inr, true≢false, arith, eqb-true, eq-eqb, leb-true, le-leb, List, [], ◌∷◌, ◌++◌, append_assoc}
-use Rattle.std.proofs.Math.Bool.{and-eq-true_iff}
+use Rattle.std.specs.Prelude.{◌≡◌, refl, ◌⊎◌, Bool, true, false, cond, ℕ, suc, ◌+◌, ◌≤◌, length}
+use Rattle.std.proofs.Common.{sym, ap, ◌∙◌, inl, inr, true≢false, arith, List, [], ◌∷◌, ◌++◌, append_assoc}
+use Rattle.std.proofs.lemmas.Grind.{common_steps}
 use mathlib.Core.List.{Memᴰ}
 use Rattle.order.specs.Grid.{strip, strip_split}
 use Rattle.decided.specs.Decided.{Position, position}
@@ -20,22 +20,17 @@ pub record Joins (a b : EdgeRun) : Type 0 where
 
 pub joins_true : (a b : EdgeRun) → joins a b ≡ true → Joins a b
 unfolding joins
-joins_true a b h =
-    let q = (and-eq-true_iff _ (leb (a.count + b.count) 16)).0 h in
-    let l = (and-eq-true_iff _ (eqb a.level b.level)).0 q.0 in
-    let s = (and-eq-true_iff _ (eqb a.size b.size)).0 l.0 in
-    let f = (and-eq-true_iff _ (eqb (a.first + a.count) b.first)).0 s.0 in
-    record {
-      edge = eqb-true _ _ f.0;
-      first = eqb-true _ _ f.1;
-      size = eqb-true _ _ s.1;
-      level = eqb-true _ _ l.1;
-      count = leb-true _ _ q.1;
-    }
+joins_true a b h = record {
+  edge = grind (arith, common_steps);
+  first = grind (arith, common_steps);
+  size = grind (arith, common_steps);
+  level = grind (arith, common_steps);
+  count = grind (arith, common_steps);
+}
 
 pub joins_holds : (a b : EdgeRun) → Joins a b → joins a b ≡ true
 unfolding joins
-joins_holds a b j = rw (eq-eqb _ _ j.edge, eq-eqb _ _ j.first, eq-eqb _ _ j.size, eq-eqb _ _ j.level, le-leb _ _ j.count)
+joins_holds a b j = grind (arith, common_steps)
 
 pub joins_false : (a b : EdgeRun) → joins a b ≡ false → Joins a b → ⊥
 joins_false a b h j = true≢false (sym (joins_holds a b j) ∙ h)

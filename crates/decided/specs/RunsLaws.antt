@@ -1,8 +1,9 @@
 -- Laws of the runs of a pass, for their users: how large they are, that they have exactly the decided positions that filter, in order
 -- (`runs-positions`), each with the run's size and level (`runs_alike`), and that each run is as long as it may be (`runs_longest`).
 -- Assumes nothing.
-use Rattle.std.specs.Prelude.{◌≡◌, refl, true, false, cond, ◌&&◌, ℕ, ◌+◌, ◌≤◌, ◌<◌, ltb, length}
+use Rattle.std.specs.Prelude.{◌≡◌, true, ◌&&◌, ℕ, ◌+◌, ◌≤◌, ◌<◌, ltb, length}
 use Rattle.std.proofs.Common.{◌∙◌, arith, sym, ap, Bool, List, ltb→lt}
+use Rattle.std.proofs.lemmas.Grind.{common_steps}
 use mathlib.Core.List.{Memᴰ}
 use Rattle.decisions.specs.Decision.{Decision, decision}
 use Rattle.decisions.specs.DecisionLaws.{decision_size, decision_level}
@@ -45,11 +46,7 @@ pub record Longest (t : Setting) (pass : Pass) (a : EdgeRun) : Type 0 where
 -- ---- what is small
 
 level_small : (d : Decision) → d.level ≤ 63 → level_of d ≤ 63
-level_small d h = by d.decided
-  where
-    by : (b : Bool) → cond b d.level 0 ≤ 63
-    by true = h
-    by false = omega arith
+level_small d h = grind (arith, common_steps)
 
 cell_small : (s : Superblock) (pass : Pass) (chroma : Bool) (cells : List ℕ) (edge c : ℕ) → edge < edge_count s pass → c < 8
     → Small (cell_run s pass chroma cells edge c)
@@ -70,18 +67,10 @@ longer_small a b j p q = record { edge = p.edge; first = p.first; count = j.coun
 -- ---- levels above 0
 
 pub level_filters : (d : Decision) → ltb 0 (level_of d) ≡ (d.decided && filters d)
-level_filters d = by d.decided
-  where
-    by : (b : Bool) → ltb 0 (cond b d.level 0) ≡ (b && filters d)
-    by true = refl
-    by false = refl
+level_filters d = grind (arith, common_steps)
 
 pub level_decided : (d : Decision) (n : ℕ) → level_of d ≡ n → 0 < n → (d.decided ≡ true) × (d.level ≡ n)
-level_decided d n e h = by d.decided e
-  where
-    by : (b : Bool) → cond b d.level 0 ≡ n → (b ≡ true) × (d.level ≡ n)
-    by true e = (refl, e)
-    by false e = absurd (omega arith)
+level_decided d n e h = grind (arith, common_steps)
 
 module _ (t : Setting) (pass : Pass) where
   abbrev pub runs_of : List EdgeRun
