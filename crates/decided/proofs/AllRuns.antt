@@ -2,6 +2,7 @@
 -- Assumes nothing.
 use Rattle.std.specs.Prelude.{◌≡◌, refl, ℕ, zero, suc, ◌+◌, ◌*◌, ◌/◌, ◌%◌, ◌≤◌, List, ◌∷◌, ◌++◌, length}
 use Rattle.std.proofs.Common.{sym, ap, ◌∙◌, arith}
+use Rattle.std.proofs.lemmas.Grind.{common_steps}
 use Rattle.geometry.specs.declared.Pass.{Pass}
 use Rattle.geometry.specs.declared.Superblock.{Superblock}
 use Rattle.order.specs.Grid.{grid, select, select-length, strip, strips, strip_split}
@@ -18,10 +19,7 @@ use Rattle.decided.proofs.KeyRunLaws.{kept_keys}
 module _ (s : Superblock) (pass : Pass) (outer inner : List ℕ) where
   -- cell c of an edge
   same_cell : (edge c k : ℕ) → c ≤ 7 → k ≡ 8 * edge + c → key_cell s pass outer inner edge c ≡ nth_cell s pass outer inner 0 k
-  same_cell edge c k h e =
-      let down : k / 8 ≡ edge = omega arith in
-      let along : k % 8 ≡ c = omega arith in
-      rw (down, along) refl
+  same_cell edge c k h e = grind (arith, common_steps)
 
   edge_strip : (edge c n k : ℕ) → c + n ≤ 8 → k ≡ 8 * edge + c → strip (key_cell s pass outer inner) edge c n ≡ strip (nth_cell s pass outer inner) 0 k n
   edge_strip edge c zero k h e = refl

@@ -82,13 +82,8 @@ module _ (s : Superblock) (pass : Pass) (chroma : Bool) (cells : List ℕ) where
     key_for_lem edge c h k = by (eqb (edge % 2) 0) refl
       where
         by : (b : Bool) → eqb (edge % 2) 0 ≡ b → cond b (get_or outer (8 * (edge / 2) + c) 0) (get_or inner (8 * (edge / 2) + c) 0) ≡ key_at s pass chroma cells edge c
-        by true e =
-            let whole : 2 * (edge / 2) + 0 ≡ edge = omega (arith, eqb-true (edge % 2) 0 e) in
-            rw even (list_key 0 (edge / 2) c (rw whole h) k) ∙ ap (λ (x : ℕ). key_at s pass chroma cells x c) whole
-        by false e =
-            let some = eqb-false (edge % 2) 0 e in
-            let half : 2 * (edge / 2) + 1 ≡ edge = omega arith in
-            rw odd (list_key 1 (edge / 2) c (rw half h) k) ∙ ap (λ (x : ℕ). key_at s pass chroma cells x c) half
+        by true e = let whole : 2 * (edge / 2) + 0 ≡ edge = grind (arith, common_steps) in rw even (rw whole at (list_key 0 (edge / 2) c (rw whole h) k))
+        by false e = let half : 2 * (edge / 2) + 1 ≡ edge = grind (arith, common_steps) in rw odd (rw half at (list_key 1 (edge / 2) c (rw half h) k))
 
     -- ---- cell by cell
 
@@ -96,7 +91,7 @@ module _ (s : Superblock) (pass : Pass) (chroma : Bool) (cells : List ℕ) where
     unfolding key_run cell_run key_at
     cell_level edge c h k =
         let i = cell_start s pass c in
-        ap (λ (x : ℕ). x % 64) (key_for_lem edge c h k) ∙ key_level (decision s pass chroma cells edge i) (decision_size s pass chroma cells edge i) (decision_level s pass chroma cells edge i)
+        rw (key_for_lem edge c h k) (key_level (decision s pass chroma cells edge i) (decision_size s pass chroma cells edge i) (decision_level s pass chroma cells edge i))
 
     cell_same : (edge c : ℕ) → edge < edge_count s pass → c < 8 → 0 < (cell_run s pass chroma cells edge c).level → key_cell s pass outer inner edge c ≡ cell_run s pass chroma cells edge c
     unfolding key_run cell_run key_at
@@ -111,11 +106,9 @@ module _ (s : Superblock) (pass : Pass) (chroma : Bool) (cells : List ℕ) where
         → keep_if (run_filters (key_cell s pass outer inner edge c)) (key_cell s pass outer inner edge c) l
         ≡ keep_if (run_filters (cell_run s pass chroma cells edge c)) (cell_run s pass chroma cells edge c) m
     kept_cell edge c h k {l} {m} e =
-        ap (λ (x : ℕ). keep_if (ltb 0 x) (key_cell s pass outer inner edge c) l) (cell_level edge c h k) ∙ by (run_filters (cell_run s pass chroma cells edge c)) refl
-      where
-        by : (b : Bool) → run_filters (cell_run s pass chroma cells edge c) ≡ b → keep_if b (key_cell s pass outer inner edge c) l ≡ keep_if b (cell_run s pass chroma cells edge c) m
-        by true on = λ i. cell_same edge c h k (ltb-true 0 _ on) i ∷ e i
-        by false off = e
+        let level = cell_level edge c h k in
+        let same = cell_same edge c h k in
+        grind (arith, common_steps)
 
     kept_strip : (edge c n : ℕ) → edge < edge_count s pass → c + n ≤ 8
         → select run_filters (strip (key_cell s pass outer inner) edge c n) ≡ select run_filters (strip (cell_run s pass chroma cells) edge c n)

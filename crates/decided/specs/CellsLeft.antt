@@ -2,6 +2,7 @@
 -- Assumes nothing.
 use Rattle.std.specs.Prelude.{refl, ◌≡◌, ℕ, suc, ◌+◌, ◌-◌, ◌*◌, ◌/◌, ◌%◌, ◌≤◌, ◌<◌, List, [], ◌∷◌, Option, IfSome}
 use Rattle.std.proofs.Common.{add-one, arith, lt-ltb}
+use Rattle.std.proofs.lemmas.Grind.{common_steps}
 use Rattle.std.specs.Iterator.{YieldsFirstBy}
 use Rattle.geometry.specs.declared.Pass.{Pass}
 use Rattle.geometry.specs.declared.Superblock.{Superblock}
@@ -25,7 +26,7 @@ module _ (s : Superblock) (pass : Pass) (outer inner : List ℕ) where
 
   pub cells_end : (k n : ℕ) → n ≤ k → cells_in k (n - k) ≡ []
   unfolding cells_in
-  cells_end k n h = let none : n - k ≡ 0 = omega arith in rw none refl
+  cells_end k n h = grind (arith, common_steps)
 
   -- cell k by its key, and those behind it
   module _ {k n key : ℕ} (is : key ≡ key_for outer inner (k / 8) (k % 8)) (more : k < n) where

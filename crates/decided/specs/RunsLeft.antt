@@ -1,7 +1,8 @@
 -- The runs of a pass, one after the other: which are still to come, while one is pending.
 -- Assumes nothing.
 use Rattle.std.specs.Prelude.{◌≡◌, refl, true, false, ◌<◌, List, [], ◌∷◌, Option, Some, None, IfSome}
-use Rattle.std.proofs.Common.{lt-ltb}
+use Rattle.std.proofs.Common.{arith, lt-ltb}
+use Rattle.std.proofs.lemmas.Grind.{common_steps}
 use Rattle.std.specs.Iterator.{YieldsFirstBy}
 use Rattle.order.specs.Grid.{select}
 use Rattle.decided.specs.CellsLeft.{cells_left}
@@ -26,11 +27,11 @@ GivesRun w r v = YieldsFirstBy (λ a. a.of) runs_left w r v × IfSome r (λ a. 0
 -- behind the last cell the pending run is left
 pub runs_none : (w : PassRuns) → cells_left w.cells ≡ [] → w.pending ≡ None → runs_left w ≡ []
 unfolding runs_left joined_on
-runs_none w end none = rw (end, none) refl
+runs_none w end none = grind (arith, common_steps)
 
 pub runs_last : (w : PassRuns) (a : SmallRun) → cells_left w.cells ≡ [] → w.pending ≡ Some a → 0 < a.of.level → runs_left w ≡ a.of ∷ []
 unfolding runs_left joined_on joined_from
-runs_last w a end some on = rw (end, some, lt-ltb 0 a.of.level on) refl
+runs_last w a end some on = grind (arith, common_steps)
 
 -- the next cell b is the pending run if there is none, and else joins it or closes it
 module _ (w v : PassRuns) (b : SmallRun) (next : cells_left w.cells ≡ b.of ∷ cells_left v.cells) where

@@ -34,6 +34,7 @@ pub struct EdgeRun {
     pub edge: usize,
     pub first: usize,
     pub count: usize,
+    // The standard's numbers, which 8.8.2 computes with.
     pub size: u8,
     pub level: u8,
 }

@@ -42,6 +42,7 @@ pub struct SuperblockFilterEdge {
     pub is_32_edge: bool,
     pub on_screen: bool,
     pub apply_filter: bool,
+    // The standard's number, which 8.8.2 computes with.
     pub size: u8,
 }
 

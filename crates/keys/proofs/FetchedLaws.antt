@@ -47,7 +47,9 @@ module _ (t : Turned) (words : List ℕ) where
       none_lack : found (lack_at t words) (16 * pairs t.sub) ≡ false → (k : ℕ) → k < 8 * pairs t.sub → plain_lack t words k ≡ false
       none_lack e k h =
           let none = found-false (lack_at t words) (16 * pairs t.sub) e in
-          rw (← lack_of_pair 0 k (omega arith), ← lack_of_pair 1 k (omega arith), none (16 * (k / 8) + 8 * 0 + k % 8) (omega arith), none (16 * (k / 8) + 8 * 1 + k % 8) (omega arith))
+          let outer = sym (lack_of_pair 0 k (omega arith)) ∙ none (16 * (k / 8) + 8 * 0 + k % 8) (omega arith) in
+          let inner = sym (lack_of_pair 1 k (omega arith)) ∙ none (16 * (k / 8) + 8 * 1 + k % 8) (omega arith) in
+          grind (arith, common_steps)
 
       none_told : found (plain_lack t words) (8 * pairs t.sub) ≡ false → (j : ℕ) → j < 16 * pairs t.sub → lack_at t words j ≡ false
       none_told e j h = go (dec_lt (j / 8 % 2) 1)

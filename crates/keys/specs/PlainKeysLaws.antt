@@ -1,14 +1,14 @@
 -- The keys and words of one edge pair, behind those of the pairs before it.
 -- Assumes nothing.
-use Rattle.std.specs.Prelude.{◌≡◌, Bool, true, false, cond, ◌||◌, List, ℕ, ◌+◌, ◌*◌, ◌/◌, ◌%◌, ◌<◌, length, get_or, set}
+use Rattle.std.specs.Prelude.{◌≡◌, Bool, ◌||◌, List, ℕ, ◌+◌, ◌*◌, ◌/◌, ◌%◌, ◌<◌, length, get_or, set}
 use Rattle.std.proofs.Common.{◌∙◌, zero-add, mul-le-mul, arith}
 use Rattle.std.proofs.Math.Nat.{add-zero}
+use Rattle.std.proofs.lemmas.Grind.{common_steps}
 use Rattle.base.specs.Filled.{filled, filled_none, filled_join, filled_more, filled_same}
 use Rattle.base.specs.First.{found, found-start, found_more}
 use Rattle.base.specs.FirstLaws.{found_join, found_same}
 use Rattle.geometry.specs.Frame.{rows_from, cells_from}
 use Rattle.geometry.specs.declared.Pass.{Pass}
-use Rattle.geometry.specs.declared.Pass.TheVariants.{Vertical, Horizontal}
 use Rattle.geometry.specs.declared.Superblock.{Superblock}
 use Rattle.positions.specs.Positions.{Placed}
 use Rattle.word_bytes.specs.WordBytes.{bytes_at, words_of}
@@ -55,7 +55,7 @@ module _ (n : EdgeLimits) (log tx : ℕ) (words : List ℕ) (e c : ℕ) (h : c <
 
   pub lack_more : (m : EdgeLimits) → found (lack_from n m log tx words (8 * e)) (c + 1) ≡ found (lack_from n m log tx words (8 * e)) c || (without_level (decides n) || without_level (decides m))
   unfolding lack_from lack_by
-  lack_more m = rw (← found_more (lack_from n m log tx words (8 * e)) c, cell)
+  lack_more m = let more = found_more (lack_from n m log tx words (8 * e)) c in let same = cell in grind (arith, common_steps)
 
 pub more_words : (t : Turned) (cells : List ℕ) (e : ℕ) (l : List ℕ) → filled (word_from (base_of t e) t.paired t.along cells) (8 * e) 8 (filled (word_in t cells) 0 (8 * e) l) ≡ filled (word_in t cells) 0 (8 * (e + 1)) l
 unfolding word_in
@@ -75,16 +75,16 @@ pub word_of_bytes : (base : ℕ) (paired : Bool) (along e c : ℕ) → c < 8 →
     → word_from base paired along (words_of bytes) (8 * e + c) ≡ bytes_at bytes (4 * at) 4
 word_of_bytes base paired along e c l bytes at is h = word_of_pair base paired along e c l (words_of bytes) ∙ (rw (words_of-length bytes, ← is) (words_of_each bytes at h))
 
-shift_small : (b : Bool) (m n : ℕ) → m < 32 → n < 32 → cond b m n < 32
-shift_small true m n h k = h
-shift_small false m n h k = k
-
 turned_small : (s : Superblock) (pass : Pass) (chroma : Bool) → Placed s → Small (turned_of s pass chroma)
 unfolding turned_of
-turned_small s Vertical chroma p =
-    record { start = omega arith; from = omega arith; across = omega arith; along = omega arith; log = shift_small s.subx 28 30 (omega arith) (omega arith); tx = shift_small chroma 20 22 (omega arith) (omega arith) }
-turned_small s Horizontal chroma p =
-    record { start = omega arith; from = omega arith; across = omega arith; along = omega arith; log = shift_small s.suby 24 26 (omega arith) (omega arith); tx = shift_small chroma 20 22 (omega arith) (omega arith) }
+turned_small s pass chroma p = record {
+  start = grind (arith, common_steps);
+  from = grind (arith, common_steps);
+  across = grind (arith, common_steps);
+  along = grind (arith, common_steps);
+  log = grind (arith, common_steps);
+  tx = grind (arith, common_steps);
+}
 
 pub turned_is : (s : Superblock) (pass : Pass) (chroma : Bool) → Placed s → (t : Turned) → t ≡ turned_of s pass chroma → (t ≡ turned_of s pass chroma) × Small t
 turned_is s pass chroma p t e = (e, rw e (turned_small s pass chroma p))

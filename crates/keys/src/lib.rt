@@ -93,7 +93,8 @@ fn keys_by(words: &[u32; 64], s: PlacedSuperblock, pass: Pass, chroma: bool) -> 
     }
 }
 
-// The keys of all edges of a pass, and the place of the first decided position whose cell has no level.
+// The keys of all edges of a pass, and the place of the first decided position whose cell has no level. That the cells reach to the
+// superblock's last is a clause: a fact of both together, which no value carries.
 pub fn keys_unchecked<C: Words>(cells: C, s: PlacedSuperblock, pass: Pass, chroma: bool) -> Keys
     requires { cells_from s.of.row s.of.cols s.of.rows ≤ length (C.words cells) }
     ensures { Told s.of pass chroma (C.words cells) result }

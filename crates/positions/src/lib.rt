@@ -25,7 +25,8 @@ pub struct EdgePosition {
 }
 
 impl EdgePosition {
-    // In luma samples.
+    // In luma samples. x and y are the standard's two names: one function over an axis would choose between them again, and be no plainer.
+    // The bound is a clause and no field, since document 01 has Luma as a tuple struct of a number alone.
 
     #[tactic(auto, unfolding(crate::specs::Positions::luma_x))]
     pub fn luma_x(self) -> Luma
@@ -49,7 +50,7 @@ impl EdgePosition {
         }
     }
 
-    // In the plane.
+    // In the plane, by the same two names.
 
     #[tactic(auto, unfolding(crate::specs::Positions::plane_x))]
     pub fn plane_x(self) -> Plane
