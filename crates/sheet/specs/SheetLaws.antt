@@ -12,11 +12,9 @@ use Rattle.decided.specs.Runs.{runs}
 use Rattle.decided.specs.declared.EdgeRun.{EdgeRun}
 use Rattle.decisions.specs.Decision.{levelless}
 use Rattle.geometry.specs.Frame.{cells_from}
-use Rattle.geometry.specs.declared.pass_numbers.PassNumbers.{PassNumbers}
 use Rattle.base.specs.Depth.{supported}
 use Rattle.faults.specs.Faults.{numbers_refused}
 use Rattle.pass_edges.specs.PassEdges.{pass_of, edge_count}
-use Rattle.text.specs.Text.{Put}
 use Rattle.sheet_header.specs.SheetHeader.{header_of, bad_header}
 use Rattle.sheet.specs.Sheet.{sheet_setting, cells_of, cells_runs, sheet_runs, printed, run_sheet}
 use Rattle.sheet_header.specs.declared.SheetHeader.{SheetHeader}
@@ -37,13 +35,9 @@ module _ (bytes : List ℕ) where
     sheet_rest l good = rw (le-ltb (length bytes) 8 l, ← is, good)
 
     -- so the text is what is printed for that outcome
-    pub sheet_text : (o : Outcome (List EdgeRun)) → sheet_runs bytes ≡ o → (before : List ℕ) {after : List ℕ} {end : ℕ} → Put 0 (printed h o) before after end → Put 0 (run_sheet bytes) before after end
+    pub sheet_text : (o : Outcome (List EdgeRun)) → sheet_runs bytes ≡ o → run_sheet bytes ≡ printed h o
     unfolding run_sheet
-    sheet_text o e before put = rw (← is, e) put
-
--- the header's numbers, as those of a pass
-abbrev pub numbers_of : SheetHeader → PassNumbers
-numbers_of h = record { sharpness = h.sharpness; bit_depth = h.depth; sub_x = h.subx; sub_y = h.suby; mi_cols = h.cols; mi_rows = h.rows; mi_row = h.row; mi_col = h.col; plane = h.plane; pass = h.pass }
+    sheet_text o e = rw (← is, e)
 
 -- the tests of the cells: how many there are, and what is looked for among the places of the grid
 abbrev pub cell_count : SheetHeader → ℕ

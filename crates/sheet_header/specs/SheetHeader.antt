@@ -1,6 +1,7 @@
 -- Document 01's run sheet: its header.
 -- Assumes nothing.
 use Rattle.std.specs.Prelude.{Bool, cond, not, ◌||◌, List, ℕ, ◌+◌, ◌*◌, ◌/◌, ◌%◌, ◌^◌, eqb, ltb}
+use Rattle.geometry.specs.declared.pass_numbers.PassNumbers.{PassNumbers}
 use Rattle.word_bytes.specs.WordBytes.{bytes_at}
 use Rattle.sheet_header.specs.declared.SheetHeader.{SheetHeader}
 
@@ -30,3 +31,7 @@ header_of bytes =
 -- 17: spare bits set, or mi_cols above 1,024
 unfoldable pub bad_header : SheetHeader → Bool
 bad_header h = not (eqb h.spare 0) || ltb 1024 h.cols
+
+-- the header's numbers, as those of a pass
+abbrev pub numbers_of : SheetHeader → PassNumbers
+numbers_of h = record { sharpness = h.sharpness; bit_depth = h.depth; sub_x = h.subx; sub_y = h.suby; mi_cols = h.cols; mi_rows = h.rows; mi_row = h.row; mi_col = h.col; plane = h.plane; pass = h.pass }

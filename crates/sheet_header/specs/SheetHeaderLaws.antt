@@ -1,9 +1,8 @@
--- Laws of a sheet's header: how large its numbers are, what test 17 leaves, and its bits from two words.
+-- Laws of a sheet's header: how large its numbers are, and what test 17 leaves.
 -- Assumes nothing.
-use Rattle.std.specs.Prelude.{◌≡◌, false, not, List, ℕ, ◌+◌, ◌*◌, ◌≤◌, ◌<◌, eqb}
+use Rattle.std.specs.Prelude.{◌≡◌, false, not, List, ℕ, ◌≤◌, ◌<◌, eqb}
 use Rattle.std.proofs.Common.{arith, ltb-false}
 use Rattle.base.specs.Tests.{neither}
-use Rattle.word_bytes.specs.WordBytes.{bytes_at}
 use Rattle.sheet_header.specs.SheetHeader.{header_of, bad_header}
 use Rattle.sheet_header.specs.declared.SheetHeader.{SheetHeader}
 
@@ -21,6 +20,3 @@ header_small bytes = record { plane = omega arith; pass = omega arith; row = ome
 pub header_narrow : (h : SheetHeader) → bad_header h ≡ false → h.cols ≤ 1024
 unfolding bad_header
 header_narrow h e = ltb-false 1024 h.cols (neither (not (eqb h.spare 0)) e).1
-
-pub bits_halves : (bytes : List ℕ) → bytes_at bytes 0 4 * 4294967296 + bytes_at bytes 4 4 ≡ bytes_at bytes 0 8
-bits_halves bytes = omega arith

@@ -2,9 +2,9 @@
 #![tactic(auto)]
 
 ghost use Rattle.std.specs.Prelude.{◌≡◌, ◌≤◌, ◌<◌, length};
-ghost use Rattle.sheet_header.specs.SheetHeader.{depth_of, header_of, bad_header};
+ghost use Rattle.sheet_header.specs.SheetHeader.{depth_of, header_of, bad_header, numbers_of};
 
-use word_bytes::word_at_unchecked;
+use geometry::pass_numbers::PassNumbers;
 
 // MiCols and MiRows, subsampling, sharpness, depth (0 where the code is none), plane, pass, row base and column in cells, and
 // the spare bits.
@@ -23,6 +23,27 @@ pub struct SheetHeader {
     pub spare: u8,
 }
 
+// The header's numbers are those of a pass.
+impl From<SheetHeader> for PassNumbers {
+    ghost from_gives = { λ h n. n ≡ numbers_of h };
+
+    fn from(h: SheetHeader) -> PassNumbers {
+        PassNumbers {
+            sharpness: h.sharpness,
+            bit_depth: h.depth,
+            sub_x: h.subx,
+            sub_y: h.suby,
+            mi_cols: h.cols,
+            mi_rows: h.rows,
+            mi_row: h.row,
+            mi_col: h.col,
+            plane: h.plane,
+            pass: h.pass,
+        }
+    }
+}
+
+// 0 and no Option where the code is none: a pass refuses depth 0 as any other that is not supported.
 fn depth_of(code: u8) -> u8
     requires { code ≤ 3 }
     ensures { result ≡ depth_of code }
@@ -34,7 +55,9 @@ pub fn header_of_unchecked(sheet: &[u8]) -> SheetHeader
     requires { 8 ≤ length sheet.now }
     ensures { result ≡ header_of sheet.now }
 {
-    let bits = word_at_unchecked(sheet, 0) as u64 * 4294967296 + word_at_unchecked(sheet, 4) as u64;
+    let bits = u64::from_be_bytes([
+        sheet[0], sheet[1], sheet[2], sheet[3], sheet[4], sheet[5], sheet[6], sheet[7],
+    ]);
     SheetHeader {
         cols: (bits / 1125899906842624 % 16384) as usize,
         rows: (bits / 68719476736 % 16384) as usize,

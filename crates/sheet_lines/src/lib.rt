@@ -2,62 +2,63 @@
 #![tactic(auto)]
 
 ghost use Rattle.std.specs.Prelude.{◌∷◌, [], ◌++◌, ◌+◌, ◌≤◌, ◌<◌, length};
-ghost use Rattle.text.specs.Text.{Put};
+ghost use Rattle.text.specs.Puts.{Puts};
 ghost use Rattle.sheet_header.specs.SheetHeaderLaws.{Header};
 ghost use Rattle.sheet_lines.specs.SheetLines.{ended_by, named, first_line, run_line, refusal_line};
 
 use decided::SmallRun;
 use sheet_header::SheetHeader;
-use text::{put_byte_unchecked, put_bytes_unchecked, put_decimal_unchecked};
+use text::Text;
 
 // A number, and the byte behind it.
-fn put_number(out: &mut [u8], at: usize, n: usize, byte: u8) -> usize
-    requires { (at ≤ 65536) × (n < 100) }
-    ensures { Put at (ended_by n byte) out.old out.new result × (result ≤ at + 3) }
+fn put_number(text: &mut Text<'_>, n: usize, byte: u8)
+    requires { (text.old.at ≤ 65536) × (n < 100) }
+    ensures { Puts (ended_by n byte) text.old text.new × (text.new.at ≤ text.old.at + 3) }
 {
-    let end = put_decimal_unchecked(out, at, n);
-    put_byte_unchecked(out, end, byte)
+    text.put_decimal_unchecked(n);
+    text.put_byte_unchecked(byte);
 }
 
 // A word, and the number behind it.
-fn put_named(out: &mut [u8], at: usize, word: &[u8], n: usize) -> usize
-    requires { (at ≤ 65536) × (length word.now ≤ 8) × (n < 10000) }
-    ensures { Put at (named word.now n) out.old out.new result × (result ≤ at + 12) }
+fn put_named(text: &mut Text<'_>, word: &[u8], n: usize)
+    requires { (text.old.at ≤ 65536) × (length word.now ≤ 8) × (n < 10000) }
+    ensures { Puts (named word.now n) text.old text.new × (text.new.at ≤ text.old.at + 12) }
 {
-    let end = put_bytes_unchecked(out, at, word);
-    put_decimal_unchecked(out, end, n)
+    text.put_bytes_unchecked(word);
+    text.put_decimal_unchecked(n);
 }
 
 // pass, plane, row base, column.
-pub fn print_first_unchecked(out: &mut [u8], h: SheetHeader) -> usize
-    requires { Header h }
-    ensures { Put 0 (first_line h) out.old out.new result × (result ≤ 49) }
+pub fn print_first_unchecked(text: &mut Text<'_>, h: SheetHeader)
+    requires { Header h × (text.old.at ≤ 32768) }
+    ensures { Puts (first_line h) text.old text.new × (text.new.at ≤ text.old.at + 49) }
 {
-    let pass = put_named(out, 0, b"pass ", h.pass as usize);
-    let plane = put_named(out, pass, b" plane ", h.plane as usize);
-    let row = put_named(out, plane, b" row ", h.row);
-    let col = put_named(out, row, b" col ", h.col);
-    put_byte_unchecked(out, col, b'\n')
+    put_named(text, b"pass ", usize::from(h.pass));
+    put_named(text, b" plane ", usize::from(h.plane));
+    put_named(text, b" row ", h.row);
+    put_named(text, b" col ", h.col);
+    text.put_byte_unchecked(b'\n');
 }
 
 // edge, first position, positions, size, level.
-pub fn print_run_unchecked(out: &mut [u8], at: usize, a: SmallRun) -> usize
-    requires { at ≤ 32768 }
-    ensures { Put at (run_line a.of) out.old out.new result × (result ≤ at + 15) }
+pub fn print_run_unchecked(text: &mut Text<'_>, a: SmallRun)
+    requires { text.old.at ≤ 32768 }
+    ensures { Puts (run_line a.of) text.old text.new × (text.new.at ≤ text.old.at + 15) }
 {
     let a = a.of;
-    let edge = put_number(out, at, a.edge, b' ');
-    let first = put_number(out, edge, a.first, b' ');
-    let count = put_number(out, first, a.count, b' ');
-    let size = put_number(out, count, a.size as usize, b' ');
-    put_number(out, size, a.level as usize, b'\n')
+    put_number(text, a.edge, b' ');
+    put_number(text, a.first, b' ');
+    put_number(text, a.count, b' ');
+    put_number(text, usize::from(a.size), b' ');
+    put_number(text, usize::from(a.level), b'\n');
 }
 
-pub fn print_refusal_unchecked(out: &mut [u8], number: usize, place: usize) -> usize
-    requires { (number < 100) × (place < 10000) }
-    ensures { Put 0 (refusal_line number place) out.old out.new result }
+// Not by the Display of Fault: what write! promises of its bytes holds where it answers Ok, and nothing promises that it does.
+pub fn print_refusal_unchecked(text: &mut Text<'_>, number: usize, place: usize)
+    requires { (text.old.at ≤ 32768) × (number < 100) × (place < 10000) }
+    ensures { Puts (refusal_line number place) text.old text.new }
 {
-    let end = put_named(out, 0, b"refused ", number);
-    let line = put_named(out, end, b" place ", place);
-    put_byte_unchecked(out, line, b'\n')
+    put_named(text, b"refused ", number);
+    put_named(text, b" place ", place);
+    text.put_byte_unchecked(b'\n');
 }

@@ -1,2 +1,4 @@
+pub mod Puts
+pub mod PutsLaws
 pub mod Text
 pub mod TextLaws

@@ -5,6 +5,8 @@ use Rattle.std.proofs.Common.{◌∙◌, inl, inr, ⊎_elim, add-zero, add-suc, 
 use mathlib.Core.List.Memᴰ
 use mathlib.Core.List.{Memᴰ}
 use Rattle.std.proofs.lemmas.List.Edits.{sets, sets-eq}
+use Rattle.std.specs.Fmt as Fmt
+use Rattle.std.proofs.lemmas.Fmt.{decimal_digit, decimal_step}
 use Rattle.text.specs.Text.{digit, decimal_in, decimal, value, value_after, written, Put}
 
 pub written_none : (at : ℕ) (out : List ℕ) → out ≡ written at [] out
@@ -126,3 +128,7 @@ decimal_digits n d = by_digits (λ n l. Memᴰ d l → (48 ≤ d) × (d ≤ 57))
 pub put_then : (at : ℕ) (a b before : List ℕ) {between after : List ℕ} {end end' : ℕ} → Put at a before between end → Put end b between after end' → Put at (a ++ b) before after end'
 put_then at a b before p q =
     (q.0 ∙ (λ i. written (p.1 i) b (p.0 i)) ∙ written_append at a b before, q.1 ∙ omega (arith, p.1, length-append a b))
+
+-- the standard library's decimal of a number is the same
+pub decimal_std : (n : ℕ) → n < 2 ^ 64 → Fmt.decimal n ≡ decimal n
+decimal_std n small = by_digits (λ n l. n < 2 ^ 64 → Fmt.decimal n ≡ l) (λ n h b. decimal_digit n h) (λ n front h f b. decimal_step n h b ∙ rw (f (omega arith)) refl) n small

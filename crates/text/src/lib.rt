@@ -1,40 +1,48 @@
-// Text in a lent buffer. Each function writes at a place and answers the place behind what it wrote; bytes past the buffer's end
-// are dropped, so a caller tests once that there is room.
+// Text in a lent buffer.
 #![tactic(auto)]
 
 ghost use Rattle.std.specs.Prelude.{◌∷◌, [], ◌+◌, ◌≤◌, ◌<◌, length};
-ghost use Rattle.text.specs.Text.{decimal, Put};
+ghost use Rattle.text.specs.Text.{decimal};
 
-#[tactic(auto, unfolding(crate::specs::Text::written))]
-pub fn put_byte_unchecked(out: &mut [u8], at: usize, byte: u8) -> usize
-    requires { at < 4294967296 }
-    ensures { Put at (byte ∷ []) out.old out.new result }
-{
-    if at < out.len() {
-        out[at] = byte;
-    }
-    at + 1
+use itoa::Buffer;
+
+// A buffer, and the place behind what was written. Bytes past the buffer's end are dropped, so a caller tests once that there is room.
+#[derive(Drop)]
+pub struct Text<'a> {
+    pub out: &'a mut [u8],
+    pub at: usize,
 }
 
-pub fn put_bytes_unchecked(out: &mut [u8], at: usize, text: &[u8]) -> usize
-    requires { at + length text.now ≤ 4294967296 }
-    ensures { Put at text.now out.old out.new result }
-{
-    let mut end = at;
-    for byte in text {
-        end = put_byte_unchecked(out, end, *byte);
-    }
-    end
-}
+impl<'a> Text<'a> {
+    ghost use Rattle.text.specs.Puts.{Puts};
 
-// A number in decimal, without leading zeros.
-pub fn put_decimal_unchecked(out: &mut [u8], at: usize, n: usize) -> usize
-    requires { (at < 4294967232) × (n ≤ 4294967295) }
-    ensures { Put at (decimal n) out.old out.new result }
-{
-    let mut end = at;
-    if 10 <= n {
-        end = put_decimal_unchecked(out, at, n / 10);
+    #[tactic(auto, unfolding(crate::specs::Text::written))]
+    pub fn put_byte_unchecked(&mut self, byte: u8)
+        requires { self.old.at < 4294967296 }
+        ensures { Puts (byte ∷ []) self.old self.new }
+    {
+        if self.at < self.out.len() {
+            self.out[self.at] = byte;
+        }
+        self.at += 1;
     }
-    put_byte_unchecked(out, end, 48 + (n % 10) as u8)
+
+    pub fn put_bytes_unchecked(&mut self, text: &[u8])
+        requires { self.old.at + length text.now ≤ 4294967296 }
+        ensures { Puts text.now self.old self.new }
+    {
+        for byte in text {
+            self.put_byte_unchecked(*byte);
+        }
+    }
+
+    // A number in decimal, without leading zeros.
+    #[tactic(auto, using(crate::specs::TextLaws::decimal_std))]
+    pub fn put_decimal_unchecked(&mut self, n: usize)
+        requires { self.old.at < 4294967232 }
+        ensures { Puts (decimal n) self.old self.new }
+    {
+        let mut digits = Buffer::new();
+        self.put_bytes_unchecked(digits.format(n).as_bytes());
+    }
 }

@@ -1,7 +1,7 @@
-use Rattle.std.proofs.Common.{◌≡◌, ◌≤◌, ◌-◌, ◌/◌, length, Bool, refl, sym, ap, subst, ◌∙◌, ℕ, List, [], false, Result}
+use Rattle.std.proofs.Common.{◌≡◌, ◌≤◌, ◌-◌, ◌/◌, length, Bool, sym, ap, subst, ◌∙◌, ℕ, List, [], false, Result}
 use Rattle.base.specs.Depth.{supported}
 use Rattle.base.specs.Fault.{afterwards}
-use Rattle.base.specs.Outcome.{Outcome, accepted, refused}
+use Rattle.base.specs.Outcome.{Outcome, accepted}
 use Rattle.base.specs.declared.fault.Fault.{Fault}
 use Rattle.faults.specs.Faults.{numbers_refused}
 use Rattle.faults.specs.FaultsLaws.{numbers_passed, numbers_any}
@@ -10,20 +10,8 @@ use Rattle.sheet_header.specs.SheetHeaderLaws.{header_narrow}
 use Rattle.sheet_header.specs.declared.SheetHeader.{SheetHeader}
 use Rattle.sheet.specs.Sheet.{cells_of, cells_runs, sheet_runs}
 use Rattle.sheet.specs.SheetFits.{Tame, sheet_tame}
-use Rattle.sheet.specs.SheetLaws.{sheet_short, sheet_spare, sheet_rest, sheet_text}
+use Rattle.sheet.specs.SheetLaws.{sheet_rest, sheet_text}
 use Rattle.sheet.proofs.print_sheet.Goals as goal
-
-pub returns-then-sheet-lt8 : goal.returns-then-sheet-lt8
-returns-then-sheet-lt8 c =
-    let bytes = c.args.sheet.now in
-    sheet_text bytes (header_of bytes) refl (refused 7 0) (sheet_short bytes c.if-sheet-lt8.true) _ c.print_fault.ensures
-
-pub returns-then-bad_header : goal.returns-then-bad_header
-returns-then-bad_header c =
-    let bytes = c.args.sheet.now in
-    let h = c.header_of_unchecked-h in
-    let spare = sheet_spare bytes h.result h.ensures c.if-sheet-lt8.false (sym c.bad_header.ensures ∙ c.if-bad_header.true) in
-    sheet_text bytes h.result h.ensures (refused 17 0) spare _ c.print_fault-then-bad_header.ensures
 
 -- past the tests of the header its numbers decide
 tested : {C : Type 0} (bytes : List ℕ) (h : SheetHeader) (known : Bool) (answer : Result C Fault) → h ≡ header_of bytes → 8 ≤ length bytes → bad_header h ≡ false → known ≡ supported h.depth
@@ -37,8 +25,8 @@ pub print_words-requires : goal.print_words-requires
 print_words-requires c =
     let h = c.header_of_unchecked-h in
     let n = numbers_passed h.result.sharpness (supported h.result.depth) h.result.subx h.result.suby h.result.cols h.result.rows h.result.row h.result.col h.result.plane h.result.pass _ (accepted [])
-    ((rw (c.is_supported-known.ensures, c.numbers_of.ensures) at (c.number_faults-tested.ensures (accepted []))) ∙ ap (λ r. afterwards r (accepted [])) c.in-Ok.is) in
-    (h.ensures, n.0.placed_at _ _, n.0.cells_lent_lem, header_narrow h.result (sym c.bad_header.ensures ∙ c.if-bad_header.false), c.if-sheet-lt8.false)
+    ((rw (c.is_supported-known.ensures, c.from.ensures) at (c.number_faults-tested.ensures (accepted []))) ∙ ap (λ r. afterwards r (accepted [])) c.in-Ok.is) in
+    (c.requires, h.ensures, n.0.placed_at _ _, n.0.cells_lent_lem, header_narrow h.result (sym c.bad_header.ensures ∙ c.if-bad_header.false), c.if-sheet-lt8.false)
 
 -- so do they of a sheet whose answer is known
 answered : {C : Type 0} (bytes : List ℕ) (h : SheetHeader) (known : Bool) (answer is : Result C Fault) → answer ≡ is → h ≡ header_of bytes → 8 ≤ length bytes → bad_header h ≡ false → known ≡ supported h.depth
@@ -50,19 +38,19 @@ pub returns-in-Ok : goal.returns-in-Ok
 returns-in-Ok c =
     let bytes = c.args.sheet.now in
     let h = c.header_of_unchecked-h in
-    let runs = answered bytes h.result _ _ _ c.in-Ok.is h.ensures c.if-sheet-lt8.false (sym c.bad_header.ensures ∙ c.if-bad_header.false) c.is_supported-known.ensures (rw c.numbers_of.ensures at c.number_faults-tested.ensures) in
-    sheet_text bytes h.result h.ensures (cells_runs h.result (cells_of bytes)) runs _ c.print_words.ensures
+    let runs = answered bytes h.result _ _ _ c.in-Ok.is h.ensures c.if-sheet-lt8.false (sym c.bad_header.ensures ∙ c.if-bad_header.false) c.is_supported-known.ensures (rw c.from.ensures at c.number_faults-tested.ensures) in
+    rw (sheet_text bytes h.result h.ensures (cells_runs h.result (cells_of bytes)) runs) c.print_words.ensures
 
 pub print_fault-requires-in-Err : goal.print_fault-requires-in-Err
 print_fault-requires-in-Err c =
     let bytes = c.args.sheet.now in
     let h = c.header_of_unchecked-h in
-    let runs = answered bytes h.result _ _ _ c.in-Err.is h.ensures c.if-sheet-lt8.false (sym c.bad_header.ensures ∙ c.if-bad_header.false) c.is_supported-known.ensures (rw c.numbers_of.ensures at c.number_faults-tested.ensures) in
-    (subst Tame runs (sheet_tame bytes)).1
+    let runs = answered bytes h.result _ _ _ c.in-Err.is h.ensures c.if-sheet-lt8.false (sym c.bad_header.ensures ∙ c.if-bad_header.false) c.is_supported-known.ensures (rw c.from.ensures at c.number_faults-tested.ensures) in
+    (c.requires, (subst Tame runs (sheet_tame bytes)).1)
 
 pub returns-in-Err : goal.returns-in-Err
 returns-in-Err c =
     let bytes = c.args.sheet.now in
     let h = c.header_of_unchecked-h in
-    let runs = answered bytes h.result _ _ _ c.in-Err.is h.ensures c.if-sheet-lt8.false (sym c.bad_header.ensures ∙ c.if-bad_header.false) c.is_supported-known.ensures (rw c.numbers_of.ensures at c.number_faults-tested.ensures) in
-    sheet_text bytes h.result h.ensures _ runs _ c.print_fault-in-Err.ensures
+    let runs = answered bytes h.result _ _ _ c.in-Err.is h.ensures c.if-sheet-lt8.false (sym c.bad_header.ensures ∙ c.if-bad_header.false) c.is_supported-known.ensures (rw c.from.ensures at c.number_faults-tested.ensures) in
+    rw (sheet_text bytes h.result h.ensures _ runs) c.print_fault-in-Err.ensures

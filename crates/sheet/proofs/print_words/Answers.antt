@@ -19,13 +19,13 @@ pub print_cells-requires : goal.print_cells-requires
 print_cells-requires c =
     let bytes = c.args.sheet.now in
     let n = c.cell_count_unchecked-count in
-    let room = lent bytes n.result (rw n.ensures c.requires.2) c.requires.4 in
-    (rw c.requires.0 (header_small bytes), c.requires.1, omega (arith, count bytes n.result room, n.ensures), c.requires.3)
+    let room = lent bytes n.result (rw n.ensures c.requires.3) c.requires.5 in
+    (c.requires.0, rw c.requires.1 (header_small bytes), c.requires.2, omega (arith, count bytes n.result room, n.ensures), c.requires.4)
 
 pub returns : goal.returns
 returns c =
     let bytes = c.args.sheet.now in
     let n = c.cell_count_unchecked-count in
-    let room = lent bytes n.result (rw n.ensures c.requires.2) c.requires.4 in
-    let cells : words_of (take (8 + 4 * n.result - 8) (drop 8 bytes)) ≡ cells_of bytes = words bytes n.result room ∙ ap (words_at bytes 8) (rw c.requires.0 at n.ensures) in
+    let room = lent bytes n.result (rw n.ensures c.requires.3) c.requires.5 in
+    let cells : words_of (take (8 + 4 * n.result - 8) (drop 8 bytes)) ≡ cells_of bytes = words bytes n.result room ∙ ap (words_at bytes 8) (rw c.requires.1 at n.ensures) in
     rw cells at c.print_cells.ensures

@@ -1,10 +1,7 @@
 use Rattle.sheet_lines.specs.SheetLines.{refusal_line}
-use Rattle.text.specs.TextLaws.{put_then}
+use Rattle.text.specs.PutsLaws.{puts_then}
 use Rattle.sheet_lines.proofs.print_refusal_unchecked.Goals as goal
 
 pub returns : goal.returns
 unfolding refusal_line
-returns c =
-    let number = c.put_named-end.ensures in
-    let place = c.put_named-line.ensures in
-    put_then _ _ _ _ (put_then _ _ _ _ number.0 place.0) c.put_byte_unchecked.ensures
+returns c = puts_then _ _ (puts_then _ _ c.put_named.ensures.0 c.put_named-2.ensures.0) c.put_byte_unchecked.ensures
