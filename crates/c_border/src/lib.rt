@@ -1,5 +1,5 @@
-// What crosses the border after a call. The functions of springspade and of the crates c_* have one name and plain arguments each, since a
-// static library exports its own functions alone, and none that is generic.
+// What crosses the border after a call. C has no Result, so what a call answers crosses as two numbers: which refusal, or 0 where the call
+// was accepted, and at which place. The crate springspade says why its functions and those of the crates c_* have plain arguments.
 #![tactic(auto)]
 
 ghost use Rattle.std.specs.Prelude.{◌≡◌};

@@ -1,5 +1,6 @@
 // The level table over lists.
-// The crate springspade exports its functions to C, and says what their arguments are.
+// The crate springspade exports its functions to C, and says what their arguments are. C has no Option, so a list of flags
+// stands beside each list of numbers that may be absent.
 #![tactic(auto)]
 
 ghost use Rattle.std.specs.Prelude.{◌≡◌, ◌≤◌, ◌<◌, length};

@@ -1,5 +1,6 @@
 // The run sheet: the runs of a pass, as text.
-// The crate springspade exports its functions to C, and says what their arguments are.
+// The crate springspade exports its functions to C, and says what their arguments are. C has no Option: no room is a count of 0, which no
+// text has.
 #![tactic(auto)]
 
 ghost use Rattle.std.specs.Prelude.{◌≡◌};

@@ -1,5 +1,5 @@
-// The functions that C calls, each that of its name in the crates c_*, with its contract. One name and plain arguments each, since a static
-// library exports its own functions alone, and none that is generic.
+// The functions that C calls. A static library exports the functions of its own crate alone, and none that is generic: so each function of
+// the crates c_* stands here again, with its contract, and all have plain arguments.
 #![tactic(auto)]
 
 mod byte_passes;
