@@ -45,44 +45,48 @@ pub struct Edge {
     pub filter_size: u8,
 }
 
-fn accepted(facts: SuperblockFilterEdge) -> Edge
-    ensures { result ≡ entry_of (accepted facts) }
-{
-    let Luma(x) = facts.x;
-    let Luma(y) = facts.y;
-    Edge {
-        number: 0,
-        place: 0,
-        x,
-        y,
-        loop_col: facts.loop_col,
-        loop_row: facts.loop_row,
-        is_block_edge: facts.is_block_edge,
-        is_tx_edge: facts.is_tx_edge,
-        is_32_edge: facts.is_32_edge,
-        on_screen: facts.on_screen,
-        apply_filter: facts.apply_filter,
-        filter_size: facts.size,
+impl From<SuperblockFilterEdge> for Edge {
+    ghost from_gives = { λ facts entry. entry ≡ entry_of (accepted facts) };
+
+    fn from(facts: SuperblockFilterEdge) -> Edge {
+        let Luma(x) = facts.x;
+        let Luma(y) = facts.y;
+        Edge {
+            number: 0,
+            place: 0,
+            x,
+            y,
+            loop_col: facts.loop_col,
+            loop_row: facts.loop_row,
+            is_block_edge: facts.is_block_edge,
+            is_tx_edge: facts.is_tx_edge,
+            is_32_edge: facts.is_32_edge,
+            on_screen: facts.on_screen,
+            apply_filter: facts.apply_filter,
+            filter_size: facts.size,
+        }
     }
 }
 
 // No refusal of a position has a place.
-fn refused(fault: Fault) -> Edge
-    ensures { result ≡ entry_of (refused (number_of fault) 0) }
-{
-    Edge {
-        number: fault.number(),
-        place: 0,
-        x: 0,
-        y: 0,
-        loop_col: 0,
-        loop_row: 0,
-        is_block_edge: false,
-        is_tx_edge: false,
-        is_32_edge: false,
-        on_screen: false,
-        apply_filter: false,
-        filter_size: 0,
+impl From<Fault> for Edge {
+    ghost from_gives = { λ fault entry. entry ≡ entry_of (refused (number_of fault) 0) };
+
+    fn from(fault: Fault) -> Edge {
+        Edge {
+            number: fault.number(),
+            place: 0,
+            x: 0,
+            y: 0,
+            loop_col: 0,
+            loop_row: 0,
+            is_block_edge: false,
+            is_tx_edge: false,
+            is_32_edge: false,
+            on_screen: false,
+            apply_filter: false,
+            filter_size: 0,
+        }
     }
 }
 
@@ -122,7 +126,7 @@ pub fn springspade_edge(
         i,
     };
     match edges::superblock_filter_edge(n, mi) {
-        Ok(facts) => accepted(facts),
-        Err(fault) => refused(fault),
+        Ok(facts) => Edge::from(facts),
+        Err(fault) => Edge::from(fault),
     }
 }

@@ -3,8 +3,13 @@
 #![tactic(auto)]
 
 ghost use Rattle.std.specs.Prelude.{◌≡◌};
+ghost use Rattle.base.specs.Fault.{number_of};
+ghost use Rattle.base.specs.Outcome.{accepted, refused};
 ghost use Rattle.strength.specs.Strength.{mode_type, strength_for};
 ghost use Rattle.c_strength.specs.StrengthEntry.{entry_of};
+
+use base::fault::Fault;
+use strength::FilterStrength;
 
 // Numbers and no Result, since it crosses to C.
 //
@@ -25,27 +30,43 @@ pub struct Strength {
     pub thresh: u8,
 }
 
+impl From<FilterStrength> for Strength {
+    ghost from_gives = { λ s entry. entry ≡ entry_of (accepted s) };
+
+    fn from(s: FilterStrength) -> Strength {
+        Strength {
+            number: 0,
+            place: 0,
+            limit: s.limit,
+            blimit: s.blimit,
+            thresh: s.thresh,
+        }
+    }
+}
+
+// Neither refusal of a strength has a place.
+impl From<Fault> for Strength {
+    ghost from_gives = { λ fault entry. entry ≡ entry_of (refused (number_of fault) 0) };
+
+    fn from(fault: Fault) -> Strength {
+        Strength {
+            number: fault.number(),
+            place: 0,
+            limit: 0,
+            blimit: 0,
+            thresh: 0,
+        }
+    }
+}
+
 // The strength of the line filter for a level and the frame's sharpness.
 #[tactic(auto, unfolding(strength::specs::Strength::strength_for))]
 pub fn springspade_strength(level: u8, sharpness: u8) -> Strength
     ensures { result ≡ entry_of (strength_for level sharpness) }
 {
     match strength::strength_for_level(level, sharpness) {
-        Ok(s) => Strength {
-            number: 0,
-            place: 0,
-            limit: s.limit,
-            blimit: s.blimit,
-            thresh: s.thresh,
-        },
-        // Neither refusal has a place.
-        Err(fault) => Strength {
-            number: fault.number(),
-            place: 0,
-            limit: 0,
-            blimit: 0,
-            thresh: 0,
-        },
+        Ok(s) => Strength::from(s),
+        Err(fault) => Strength::from(fault),
     }
 }
 

@@ -12,4 +12,4 @@ returns-in-Err c =
     let is = rw (to_z-of_z c.ranges.ref_frame) at c.in-Err.ensures in
     let place : place_of c.in-Err.fault ≡ 0 =
     ap (λ (o : Outcome SuperblockFilterEdge). (returned o).place) is ∙ edge_place a.pass a.mi_row a.mi_col a.edge a.i a.sub_x a.sub_y a.mi_cols a.mi_rows (mi_of a.mi_size a.tx_size a.skip a.ref_frame) in
-    c.refused.ensures ∙ (rw place at (ap entry_of is))
+    c.from-in-Err.ensures ∙ (rw place at (ap entry_of is))
