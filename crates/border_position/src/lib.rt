@@ -42,6 +42,7 @@ fn write_tap<S: LentSample>(samples: &mut [S], g: WindowShape, p: Position, k: u
     }
 }
 
+#[tactic(auto, using(window::specs::StencilLaws::scatter_none))]
 fn store<S: LentSample>(samples: &mut [S], g: WindowShape, p: Position, t: &[u16; 16])
     requires { Lent g (length samples.old) × HoldsLine S.width t.now }
     ensures { map S.value samples.new ≡ scatter (tap_stored g p.pass p.x p.y) (tap_written g p.pass p.x p.y) (λ k. get_or t.now k 0) 16 (map S.value samples.old) }
@@ -53,6 +54,7 @@ fn store<S: LentSample>(samples: &mut [S], g: WindowShape, p: Position, t: &[u16
 }
 
 // The work without tests, for a caller that has made them.
+#[tactic(auto, using(crate::specs::Holds::line_held))]
 pub fn filter_position_unchecked<S: LentSample>(
     samples: &mut [S],
     g: WindowShape,

@@ -23,6 +23,7 @@ fn any_large(keys: &[u8; 16]) -> bool
 }
 
 // Taps that no key reads are not loaded, and taps that did not change not stored.
+#[tactic(auto, unfolding(window::specs::Stencil::in_turn))]
 pub fn filter_chunk_unchecked(
     samples: &mut [u8],
     run: TapRun,

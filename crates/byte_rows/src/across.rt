@@ -10,6 +10,7 @@ use lane_runs::rows::{Places, Rows, copy_rows_unchecked};
 
 // The middle N taps of each position, a constant, so that rows are vectors and the shuffles are unrolled.
 
+#[tactic(auto, using(crate::specs::RowsLaws::across_loaded))]
 fn load_taps<const N: usize>(t: &mut [u8; 256], samples: &[u8], lines: Across)
     requires { SpacedRun lines.at 1 lines.along lines.n samples.now × (0 < N) × (N ≤ 16) }
     ensures { Taken lines.at 1 lines.along lines.n ((16 - N) / 2) N samples.now t.new × (length t.new ≡ 256) }

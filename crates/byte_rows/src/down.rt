@@ -6,6 +6,9 @@ ghost use Rattle.byte_rows.specs.Rows.{reach};
 use lane_runs::down::Down;
 use lane_runs::rows::{Places, Rows, copy_rows_unchecked};
 
+// The number of rows is a constant in each branch, here and in `store_down`, so that the copies are unrolled: with the rows chosen first
+// and one call for both, loading and storing took 25 to 55 percent longer.
+#[tactic(auto, using(lane_runs::specs::RowCopiesLaws::rows_loaded))]
 pub(crate) fn load_down(t: &mut [u8; 256], samples: &[u8], lines: Down, all: bool)
     requires { SpacedRun lines.at lines.step 1 lines.n samples.now }
     ensures { Taken lines.at lines.step 1 lines.n (8 - reach all) (2 * reach all) samples.now t.new × (length t.new ≡ 256) }

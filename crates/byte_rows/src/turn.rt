@@ -7,7 +7,8 @@ fn shuffle(u: &mut [u8; 256], to: usize, t: &[u8; 256], from: usize, half: usize
     requires { (to + 2 * half ≤ 256) × (from + 2 * half ≤ 256) }
     ensures { Turned to from 2 half t.now u.new }
 {
-    // By places: chunks_exact_mut tells a proof the length of what it leaves, and not the entries.
+    // By places: over pairs of chunks_mut and the two halves no place would be counted, but of a pair that is lent back a proof knows the
+    // length alone, not which entries it got.
     for i in 0..half {
         u[to + 2 * i] = t[from + i];
         u[to + 2 * i + 1] = t[from + half + i];
@@ -27,7 +28,8 @@ pub(crate) fn turn<const N: usize>(t: &mut [u8; 256], to: usize)
     shuffle(t, to, &u, 0, 8 * N);
 }
 
-// The rows 4 to 11, which are the taps p3 to q3, into 16 rows of 8 at the table's start.
+// The rows 4 to 11, which are the taps p3 to q3, into 16 rows of 8 at the table's start. Beside `turn`, since each shuffle doubles the
+// rows that are turned: 8 rows take three, and the 16 of `turn` four.
 pub(crate) fn turn_middle_back(t: &mut [u8; 256])
     ensures { Turned 0 64 8 16 t.old t.new }
 {

@@ -6,7 +6,7 @@ use Rattle.std.proofs.lemmas.Bool.{eqb-false}
 use Rattle.std.proofs.lemmas.List.{length-replicate}
 use Rattle.std.proofs.lemmas.Grind.{common_steps}
 use Rattle.base.specs.Filled.{filled, table, filled_at, take-filled}
-use Rattle.decisions.specs.Decision.{decision}
+use Rattle.decisions.specs.Decision.{Decision, decision}
 use Rattle.decisions.specs.DecisionLaws.{decision_size, decision_level}
 use Rattle.geometry.specs.CoordinatesLaws.{shr_small}
 use Rattle.geometry.specs.declared.Pass.{Pass}

@@ -38,6 +38,7 @@ impl Lines for Down {
         t
     }
 
+    #[tactic(auto, using(crate::specs::RowCopiesLaws::rows_stored))]
     fn scatter(self, samples: &mut [u16], t: &[u16; 256], taps: Rows) {
         let table = Places { at: 0, apart: 16 };
         let window = Places {

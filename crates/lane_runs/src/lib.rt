@@ -19,6 +19,7 @@ use lines::filter_lines;
 use tap_places::tap_run::TapRun;
 
 // The work without tests, for a caller that has made them.
+#[tactic(auto, unfolding(window::specs::Stencil::in_turn))]
 pub fn filter_lane_run_unchecked(samples: &mut [u16], run: TapRun, size: u8, f: LineStrength)
     requires { LaneRun run.at run.step run.along run.n samples.old }
     ensures { samples.new ≡ in_turn (plain_run run.at run.step run.along (sample_filtering f.depth.bits size f.limit f.blimit f.thresh)) run.n samples.old }

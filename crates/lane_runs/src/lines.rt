@@ -57,6 +57,7 @@ fn changed_taps(size: u8) -> Rows
 }
 
 // A constant size, so that the numbers of taps are constants and the loops over taps are unrolled.
+#[tactic(auto, using(crate::specs::SpreadLaws::loaded_table, crate::specs::LaneRunLaws::lanes_kept))]
 fn filter_sized<L: Lines, const SIZE: u8>(lines: L, samples: &mut [u16], f: LineStrength)
     requires { LaneRun (L.at lines) (L.step lines) (L.along lines) (L.n lines) samples.old }
     ensures { samples.new ≡ in_turn (plain_run (L.at lines) (L.step lines) (L.along lines) (sample_filtering f.depth.bits SIZE f.limit f.blimit f.thresh)) (L.n lines) samples.old }

@@ -33,6 +33,7 @@ fn copy_row<T: Copy, const N: usize>(to: &mut [T], at: usize, from: &[T], place:
     to[at..at + N].copy_from_slice(&row);
 }
 
+#[tactic(auto, unfolding(crate::specs::RowCopies::rows_copied), using(crate::specs::RowCopiesLaws::rows_more))]
 fn copy_rows_of<T: Copy, const N: usize>(
     to: &mut [T],
     into: Places,
@@ -57,6 +58,7 @@ fn copy_rows_of<T: Copy, const N: usize>(
 
 // A length that is no constant, which is rare: no array can have it.
 #[inline(never)]
+#[tactic(auto, unfolding(crate::specs::RowCopies::rows_copied), using(crate::specs::RowCopiesLaws::rows_more))]
 fn copy_rows_any<T: Copy>(
     to: &mut [T],
     into: Places,

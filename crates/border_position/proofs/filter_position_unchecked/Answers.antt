@@ -2,12 +2,7 @@ use Rattle.std.proofs.Common.{true}
 use Rattle.line.specs.SampleFiltering.{sample_filtering}
 use Rattle.window.specs.StencilLaws.{applied-made}
 use Rattle.window.specs.Window.{stencil}
-use Rattle.border_position.specs.Holds.{line_held}
 use Rattle.border_position.proofs.filter_position_unchecked.Goals as goal
-
-pub store-requires : goal.store-requires
-store-requires g c =
-    (c.requires.0, rw c.sample_filtering_unchecked.ensures (line_held _ _ _ _ _ _ _ c.requires.1 c.load-t.ensures.1))
 
 pub returns : goal.returns
 returns g c =

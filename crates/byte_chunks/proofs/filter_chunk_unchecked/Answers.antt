@@ -1,10 +1,6 @@
 use Rattle.std.proofs.Common.{refl, rules, ◌∙◌}
-use Rattle.window.specs.StencilLaws.{in_turn_none}
 use Rattle.byte_chunks.specs.ChunkLaws.{any_large_fold, chunk_run, chunk_kept}
 use Rattle.byte_chunks.proofs.filter_chunk_unchecked.Goals as goal
-
-pub returns-then-run-eq0 : goal.returns-then-run-eq0
-returns-then-run-eq0 c = rw c.if-run-eq0.true (in_turn_none _ _)
 
 pub returns-in-Nothing : goal.returns-in-Nothing
 returns-in-Nothing c =

@@ -7,15 +7,6 @@ use Rattle.window.proofs.first_bad_sample_unchecked.Goals as goal
 pub loop-row-init : goal.loop-row-init
 loop-row-init c = sym (rows_none c.args.g c.args.bound c.args.samples.now)
 
-pub overflow_mul-row : goal.overflow_mul-row
-overflow_mul-row c = let room = row_room c.args.g _ c.loop-row.row c.requires c.loop-row-test.true in omega arith
-
-pub first_in_row-requires : goal.first_in_row-requires
-first_in_row-requires c = (row_room c.args.g _ c.loop-row.row c.requires c.loop-row-test.true).0
-
-pub overflow_mul-result : goal.overflow_mul-result
-overflow_mul-result c = let room = row_room c.args.g _ c.loop-row.row c.requires c.loop-row-test.true in omega arith
-
 pub overflow_add-result : goal.overflow_add-result
 overflow_add-result c =
     let a = c.args in
@@ -34,8 +25,3 @@ loop-row-preserved c =
     let a = c.args in
     let none = no_place (reaches a.bound a.samples.now (c.loop-row.row * a.g.stride)) a.g.width (sym c.first_in_row.ensures ∙ c.in_default.is) in
     sym (rows_more a.g a.bound a.samples.now c.loop-row.row) ∙ (rw (c.loop-row.invariant, none))
-
-pub returns : goal.returns
-returns c =
-    let all : c.loop-row.row ≡ c.args.g.height = omega arith in
-    rw (rw all at c.loop-row.invariant)

@@ -1,5 +1,5 @@
 use Rattle.lane_runs.specs.SpreadLaws.{loaded_table}
-use Rattle.lane_runs.specs.LaneRunLaws.{lanes_run, lanes_kept}
+use Rattle.lane_runs.specs.LaneRunLaws.{lanes_run}
 use Rattle.lane_runs.proofs.lines.filter_sized.Goals as goal
 
 pub filter_lanes_unchecked-requires : goal.filter_lanes_unchecked-requires
@@ -13,10 +13,3 @@ returns-then-filter_lanes_unchecked g c =
     let s = a.f in
     lanes_run a.f.depth.bits g.row.SIZE s.limit s.blimit s.thresh _ _ _ _ a.samples.now _ _ c.requires.run (rw (c.read_taps.ensures.0, c.read_taps.ensures.1) at c.gather-t.ensures)
     (rw c.count.ensures at c.filter_lanes_unchecked.ensures.0) _ (rw (c.changed_taps.ensures.0, c.changed_taps.ensures.1) at c.scatter.ensures)
-
-pub returns-else-filter_lanes_unchecked : goal.returns-else-filter_lanes_unchecked
-returns-else-filter_lanes_unchecked g c =
-    let a = c.args in
-    let s = a.f in
-    lanes_kept a.f.depth.bits g.row.SIZE s.limit s.blimit s.thresh _ _ _ _ a.samples.now _ _ c.requires.run (rw (c.read_taps.ensures.0, c.read_taps.ensures.1) at c.gather-t.ensures)
-    (rw c.count.ensures at c.filter_lanes_unchecked.ensures.0) (c.filter_lanes_unchecked.ensures.1 c.if-filter_lanes_unchecked.false)

@@ -1,13 +1,8 @@
-use Rattle.std.proofs.Common.{◌≡◌, arith}
 use Rattle.std.proofs.lemmas.List.{map-id}
 use Rattle.line.specs.SampleFiltering.{sample_filtering}
 use Rattle.tap_places.specs.TurnLaws.{in_turn_next}
-use Rattle.window.specs.StencilLaws.{in_turn_none}
 use Rattle.window.specs.Window.{run_of}
 use Rattle.runs.proofs.border.filter_border.Goals as goal
-
-pub loop-k-init : goal.loop-k-init
-loop-k-init c = in_turn_none _ _
 
 pub loop-k-preserved : goal.loop-k-preserved
 loop-k-preserved c =
@@ -15,8 +10,3 @@ loop-k-preserved c =
     let p = c.position_unchecked-p.ensures in
     in_turn_next (run_of a.g a.start.pass a.start.x a.start.y (sample_filtering a.f.depth.bits a.size a.f.limit a.f.blimit a.f.thresh)) c.loop-k.k _ _ _
     (rw (p.0, p.1, p.2) at simp map-id at c.filter_position_unchecked.ensures) c.loop-k.invariant
-
-pub returns : goal.returns
-returns c =
-    let all : c.loop-k.k ≡ c.args.n = omega arith in
-    rw all at c.loop-k.invariant
