@@ -55,7 +55,7 @@ impl Fault {
         }
     }
 
-    // Its place, 0 where the line names none.
+    // Its place. 0 and no Option where the line names none, as document 01 has it.
     pub fn place(self) -> usize
         ensures { result ≡ place_of self }
     {

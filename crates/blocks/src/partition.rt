@@ -1,4 +1,4 @@
-// The shapes of the block sizes, from the Rust's partition.rs.
+// The shapes of the block sizes: four tables, which the Rust's partition.rs has and names so.
 ghost use Rattle.std.specs.Prelude.{◌≡◌};
 ghost use Rattle.blocks.specs.BlockSizes.{by_size, mi_width_log2, mi_height_log2, num8x8_wide, num8x8_high};
 

@@ -21,7 +21,7 @@ use narrow::narrow_filter;
 use wide::{wide_fourteen, wide_six};
 
 // The filter that a lane gets: none, the narrow one, the wide one of six samples, or that of fourteen.
-#[derive(Clone, Copy, PartialEq, Eq)]
+#[derive(Clone, Copy, Debug, PartialEq, Eq)]
 pub enum Arm {
     None,
     Narrow,
@@ -29,7 +29,7 @@ pub enum Arm {
     Fourteen,
 }
 
-// The arm of a lane by its key, which is 64 times the filter size and the level: the size is no enum, since 8.8.2 computes with it.
+// The arm of a lane by its key, which is 64 times the filter size and the level: 8.8.3 computes the size as a number.
 #[tactic(auto, unfolding(crate::specs::ByteArm::arm_of, strength::specs::Strength::strength_of))]
 pub fn lane_arm(a: Lane<u8>, key: Key, sharpness: Sharpness) -> Arm
     ensures { number_of result ≡ arm_of sharpness.level key.number (samples_of a) }

@@ -17,7 +17,7 @@ use superblock_pass::superblock_loop_filter_unchecked;
 use window::WindowShape;
 
 // As springspade_pass_bytes, without its tests and without an answer, and with cells as springspade_row packs them.
-// Plain parameters, since C calls it.
+// Plain parameters, those of the C function that calls it.
 pub fn springspade_pass_bytes_unchecked(
     samples: &mut [u8],
     cells: &[u32],

@@ -17,7 +17,7 @@ use superblock_pass::superblock_loop_filter_unchecked;
 use window::WindowShape;
 
 // As springspade_pass, without its tests and without an answer.
-// Plain parameters, since C calls it.
+// Plain parameters, those of the C function that calls it.
 pub fn springspade_pass_unchecked(
     samples: &mut [u16],
     cells: &[u32],

@@ -13,7 +13,8 @@ use geometry::{Pass, Superblock};
 pub use pass_runs::PassRuns;
 pub use small_run::SmallRun;
 
-// The superblock of a plane, of numbers that are tested: plane 0 counts as not subsampled.
+// The superblock of a plane, of numbers that are tested: plane 0 counts as not subsampled. A function and no From, since what it makes
+// of numbers that are not tested is no superblock of a frame.
 pub fn superblock_of(n: PassNumbers) -> Superblock
     ensures { result ≡ superblock_of n.sub_x n.sub_y n.mi_cols n.mi_rows n.mi_row n.mi_col n.plane }
 {
@@ -34,7 +35,7 @@ pub struct EdgeRun {
     pub edge: usize,
     pub first: usize,
     pub count: usize,
-    // The standard's numbers, which 8.8.2 computes with.
+    // The standard's numbers, which 8.8.3 computes.
     pub size: u8,
     pub level: u8,
 }

@@ -4,7 +4,7 @@ ghost use Rattle.edge_steps.specs.FilterSize.{base_size, at_last, filter_size};
 
 use geometry::{Luma, Pass, Superblock};
 
-// Transforms and filter sizes are the standard's numbers and no enum: 8.8.2 computes with them, and keys pack them.
+// Transforms and filter sizes are the standard's numbers and no enum: 8.8.3 computes with them, and keys pack them.
 const TX_4X4: u8 = 0;
 
 const TX_8X8: u8 = 1;

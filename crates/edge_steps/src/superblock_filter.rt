@@ -15,7 +15,7 @@ pub fn loop_cell_unchecked(at: Luma, sub: bool) -> usize
     shl_unchecked(shr(at.0 / 8, sub), sub)
 }
 
-// Multiples of 2 to the power of a transform: by cases, so that nothing is divided.
+// Multiples of 2 to the power of a transform: by cases, whose divisors are constants and not 0.
 fn is_multiple(n: usize, log: u8) -> bool
     requires { log ≤ 3 }
     ensures { result ≡ multiple n (2 ^ log) }

@@ -42,7 +42,7 @@ pub struct SuperblockFilterEdge {
     pub is_32_edge: bool,
     pub on_screen: bool,
     pub apply_filter: bool,
-    // The standard's number, which 8.8.2 computes with.
+    // The standard's number, which 8.8.3 computes. It stands of any position, filtered or not, so that flag and size are no Option.
     pub size: u8,
 }
 

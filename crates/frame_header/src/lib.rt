@@ -36,7 +36,7 @@ pub fn active_feature(seg: SegmentationParams, segment_id: usize, feature: usize
     seg.features[at]
 }
 
-// Which segmentation features are active.
+// Which segmentation features are active: the standard's function, for a caller.
 #[tactic(auto, unfolding(crate::specs::Params::seg_feature_active))]
 pub fn seg_feature_active(seg: SegmentationParams, segment_id: usize, feature: usize) -> bool
     ensures { result ≡ seg_feature_active seg segment_id feature }

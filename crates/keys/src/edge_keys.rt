@@ -4,7 +4,8 @@ ghost use Rattle.keys.specs.Keyed.{Keyed, key_for, keys_along};
 
 use base::key::Key;
 
-// The keys of the outer and of the inner edges, and the first decided position that reads a cell without level, if one does.
+// The keys of the outer and of the inner edges, two arrays of bytes, since the loop that fills them stores a vector of each; and the first
+// decided position that reads a cell without level, if one does.
 #[derive(Clone, Copy)]
 pub struct Keys {
     pub outer: [u8; 64],

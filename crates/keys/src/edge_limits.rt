@@ -21,7 +21,7 @@ pub(crate) struct EdgeLimits {
     pub narrow: bool,
 }
 
-// The key of a cell at an edge, and whether it decides without level: a flag and no Option, for a loop that runs in vectors.
+// The key of a cell at an edge, and whether it decides without level: a flag and no Option, since the key stands in either case.
 #[derive(Clone, Copy)]
 pub(crate) struct Entry {
     pub key: u8,

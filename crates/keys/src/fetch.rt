@@ -48,7 +48,7 @@ fn fetch_pair<C: Words>(words: &mut [u32; 64], cells: C, t: SmallTurned, e: usiz
 {
     let base = base_of(t, e);
     let size = cells.count();
-    // By an index, since a word's place in the cells is made of it too.
+    // By an index, of which a word's place in the cells is made: of iter_mut a proof knows nothing but the length.
     for c in 0..8 {
         let at = place_from(base, t.of.paired, t.of.along, c, size);
         words[8 * e + c] = cells.word_unchecked(at);

@@ -40,7 +40,7 @@ fn put_pair(
     let n = limits_of(t, 2 * e);
     let m = limits_of(t, 2 * e + 1);
     let mut lacking = false;
-    // By an index, since it is a place in three lists, and the cell's number for its limits.
+    // By an index, a place in three lists: of iter_mut a proof knows nothing but the length.
     for c in 0..8 {
         let w = words[8 * e + c];
         let log = (w >> t.of.log) % 4;

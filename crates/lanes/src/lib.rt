@@ -35,7 +35,7 @@ fn any_mask(t: &[u16; 256], m: usize, n: u16, f: LineStrength) -> bool
 }
 
 // Filters the first n lanes. The answer is false where none of them changes, so that nothing need be stored. The size is a
-// number, the standard's filterSize: 8.8.2 computes with it, and keys pack it.
+// number, the standard's filterSize: 8.8.3 computes it, and keys pack it.
 pub fn filter_lanes_unchecked(t: &mut [u16; 256], n: usize, size: u8, f: LineStrength) -> bool
     requires { (n ≤ 16) × Table t.old }
     ensures { Lanes n (sample_filtering f.depth.bits size f.limit f.blimit f.thresh) t.old t.new × (result ≡ false → t.new ≡ t.old) }

@@ -1,4 +1,4 @@
-// Sixteen lanes side by side: tap k of lane l stands at 16 k + l.
+// Sixteen lanes side by side: tap k of lane l stands at 16 k + l. One list and no rows of 16, since bytes are shuffled across rows.
 ghost use Rattle.std.specs.Prelude.{◌≡◌, List, ℕ, ◌+◌, ◌<◌, ◌≤◌, length, map};
 ghost use Rattle.std.proofs.Common.{lit≤};
 ghost use Rattle.lane.specs.LaneSamples.{values_of, four_of, six_of, fourteen_of};

@@ -25,6 +25,7 @@ impl LvlLookup {
         LvlLookup { levels: [0; 64] }
     }
 
+    // As the Rust has it: the row's cells call find_level.
     pub fn get(self, segment_id: usize, ref_frame: i32, mode: usize) -> Option<u8>
         ensures { result ≡ lookup_of self.levels segment_id ref_frame mode }
     {

@@ -24,8 +24,8 @@ use narrow::narrow_filter;
 use stored::{store_fourteen, store_six};
 use wide_filter::{wide_fourteen, wide_six};
 
-// The work without the tests, for a caller that has made them. The size is a number, the standard's filterSize: 8.8.2 computes
-// with it, and keys pack it.
+// The work without the tests, for a caller that has made them. The size is a number, the standard's filterSize: 8.8.3
+// computes it, and keys pack it.
 #[tactic(auto, unfolding(crate::specs::SampleFiltering::sample_filtering))]
 pub fn sample_filtering_unchecked(t: &mut [u16; 16], size: u8, f: LineStrength)
     ensures { t.new ≡ sample_filtering f.depth.bits size f.limit f.blimit f.thresh t.old }

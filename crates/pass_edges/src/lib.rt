@@ -1,4 +1,6 @@
-// The edges of a pass over a superblock: how many there are, and how many positions each has.
+// The edges of a pass over a superblock: how many there are, and how many positions each has. Superblock and pass go together here and
+// in the steps above, and are two parameters: the definitions take them apart, as the standard does, so that each contract would take a
+// struct of both apart again.
 #![tactic(auto)]
 
 ghost use Rattle.std.specs.Prelude.{◌≡◌, ◌≤◌};
@@ -34,7 +36,8 @@ pub fn edge_len(s: Superblock, pass: Pass) -> usize
     along(s, pass, 64)
 }
 
-// Of a number that is tested: passes and planes arrive as numbers from C and from sheets, where any may stand.
+// Of a number that is tested: passes and planes arrive as numbers from C and from sheets, where any may stand. It is no TryFrom, since
+// document 01 tests plane and pass as one, at a place among other tests.
 pub fn pass_of(pass: u8) -> Pass
     ensures { result ≡ pass_of pass }
 {

@@ -42,7 +42,7 @@ fn row_cells_unchecked(
     ensures { cells.new ≡ filled (word_at (lists_of lists.entry) levels.now subx suby) 0 count cells.old }
 {
     let tables = WordTables::new_unchecked(levels, subx, suby);
-    // By an index, since it is the place in six lists besides.
+    // By an index, the place in six lists besides: of iter_mut a proof knows nothing but the length.
     for k in 0..count {
         cells[k] = tables.word_unchecked(lists.at_unchecked(k));
     }

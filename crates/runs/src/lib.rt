@@ -19,7 +19,7 @@ use window::WindowShape;
 
 // n positions along an edge by one filter size and strength, the first with q0 at (x, y). Inside the window they are filtered in
 // lanes, which ask for samples of 12 bits. The work without tests, for a caller that has made them. The size is the standard's number,
-// which 8.8.2 computes and keys pack.
+// which 8.8.3 computes and keys pack.
 pub fn filter_run_unchecked(
     samples: &mut [u16],
     g: WindowShape,

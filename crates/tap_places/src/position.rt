@@ -8,7 +8,7 @@ use crate::place::place_of;
 use geometry::Pass;
 use window::WindowShape;
 
-// A position of a pass, whose q0 is at (x, y).
+// A position of a pass, whose q0 is at (x, y). It is no start of a run, whose bounds are lower: a position may lie 64 behind it.
 #[derive(Clone, Copy)]
 pub struct Position {
     pub pass: Pass,

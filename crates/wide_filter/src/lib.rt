@@ -9,7 +9,8 @@ ghost use Rattle.wide_filter.specs.WideSums.{AtMost, Side};
 
 use lane::{Lane, Six};
 
-// What the sums of one side are formed in: 16 of the samples, each at most `top`, and 8 fit it.
+// What the sums of one side are formed in: 16 of the samples, each at most `top`, and 8 fit it. Methods of its own, since the traits of
+// the operators ask for no bound.
 pub trait Sum: Copy {
     ghost top: { ℕ };
 
