@@ -1,21 +1,18 @@
 // The transforms of chroma blocks, from the Rust's residual.rs.
 #![tactic(auto)]
 
-ghost use Rattle.std.specs.Prelude.{◌≡◌, ◌≤◌};
+ghost use Rattle.std.specs.Prelude.{◌≡◌, ◌≤◌, MatchOption};
 ghost use Rattle.blocks.specs.BlockSizes.{by_size};
-ghost use Rattle.chroma_transforms.specs.ChromaTransforms.{max_tx_size, ss_size, uv_limit};
+ghost use Rattle.chroma_transforms.specs.ChromaTransforms.{invalid, max_tx_size, ss_size, uv_limit};
 
 use blocks::block_size::BlockSize;
 use std::array;
 
 const BLOCK_8X8: u8 = 3;
 
-// A number among the sizes and no Option, since the standard's lists have it as an entry.
-const BLOCK_INVALID: u8 = 14;
-
 const MAX_TXSIZE_LOOKUP: [u8; 13] = [0, 0, 0, 1, 1, 1, 2, 2, 2, 3, 3, 3, 3];
 
-// ss_size_lookup[ size ][ subX ][ subY ].
+// ss_size_lookup[ size ][ subX ][ subY ]. 14 stands for BLOCK_INVALID, as in the standard.
 const SS_SIZE_LOOKUP: [[[u8; 2]; 2]; 13] = [
     [[0, 14], [14, 14]],
     [[1, 0], [14, 14]],
@@ -39,11 +36,13 @@ fn max_tx_size(size: BlockSize) -> u8
     MAX_TXSIZE_LOOKUP[usize::from(size.number)]
 }
 
-#[tactic(auto, using(crate::specs::ChromaTransformsLaws::ss_size_listed))]
-fn ss_size(size: BlockSize, subx: bool, suby: bool) -> u8
-    ensures { result ≡ ss_size size.number subx suby }
+// None where the shape of the chroma block does not exist.
+#[tactic(auto, using(crate::specs::ChromaTransformsLaws::ss_size_listed, crate::specs::ChromaTransformsLaws::ss_size_lem))]
+fn ss_size(size: BlockSize, subx: bool, suby: bool) -> Option<BlockSize>
+    ensures { MatchOption result (ss_size size.number subx suby ≡ invalid) (λ s. s.number ≡ ss_size size.number subx suby) }
 {
-    SS_SIZE_LOOKUP[usize::from(size.number)][usize::from(subx)][usize::from(suby)]
+    let number = SS_SIZE_LOOKUP[usize::from(size.number)][usize::from(subx)][usize::from(suby)];
+    BlockSize::try_from(number).ok()
 }
 
 #[tactic(auto, unfolding(crate::specs::ChromaTransforms::uv_limit), using(crate::specs::ChromaTransformsLaws::ss_size_lem))]
@@ -53,11 +52,10 @@ fn uv_limit(subx: bool, suby: bool, mi_size: BlockSize) -> u8
     if mi_size.number < BLOCK_8X8 {
         return 0;
     }
-    let plane_size = ss_size(mi_size, subx, suby);
-    if plane_size == BLOCK_INVALID {
-        return 0;
+    match ss_size(mi_size, subx, suby) {
+        Some(plane_size) => max_tx_size(plane_size),
+        None => 0,
     }
-    max_tx_size(BlockSize { number: plane_size })
 }
 
 // The largest transform of each block size in planes 1 and 2.
