@@ -43,12 +43,12 @@ module _ (s : Superblock) (pass : Pass) (outer inner : List ℕ) where
 
 -- the cells that were not walked
 abbrev pub cells_left : KeyCells → List EdgeRun
-cells_left w = cells_in w.s w.pass w.keys.now.outer w.keys.now.inner w.at (w.count - w.at)
+cells_left w = cells_in w.s w.pass w.keys.now.outer w.keys.now.inner w.cells.start (w.cells.end - w.cells.start)
 
 -- the walk goes over the pass
 pub record Walking (w : KeyCells) : Type 0 where
-  pub all : w.count ≡ 8 * edge_count w.s w.pass
-  pub within : w.at ≤ w.count
+  pub all : w.cells.end ≡ 8 * edge_count w.s w.pass
+  pub within : w.cells.start ≤ w.cells.end
 
 -- a cell that is given filters; behind the last, too, the walk may go on
 abbrev pub GivesCell : KeyCells → Option SmallRun → KeyCells → Type 0

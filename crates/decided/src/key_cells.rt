@@ -7,15 +7,15 @@ use crate::small_run::{SmallRun, key_run_unchecked};
 use geometry::{Pass, Superblock};
 use keys::Keys;
 use pass_edges::edge_count;
+use std::ops::Range;
 
 #[derive(Drop)]
 pub(crate) struct KeyCells<'a> {
     s: Superblock,
     pass: Pass,
     keys: &'a Keys,
-    // The number of the pass's cells, and of those that were walked.
-    count: usize,
-    at: usize,
+    // Those that were not walked.
+    cells: Range<usize>,
 }
 
 impl<'a> KeyCells<'a> {
@@ -28,8 +28,7 @@ impl<'a> KeyCells<'a> {
             s,
             pass,
             keys,
-            count: 8 * edge_count(s, pass),
-            at: 0,
+            cells: 0..8 * edge_count(s, pass),
         }
     }
 }
@@ -46,15 +45,14 @@ impl<'a> Iterator for KeyCells<'a> {
 
     ghost remaining = { item_count cells_left };
 
-    // Level 0 filters nothing. The place is counted by hand, since it is what the iterator keeps from call to call.
+    // Level 0 filters nothing.
     #[inline(always)]
     #[tactic(auto, unfolding(crate::specs::KeyRuns::key_run), using(pass_edges::specs::PassEdgesLaws::edge_count_small, crate::specs::CellsLeft::cells_end, crate::specs::CellsLeft::cells_off, crate::specs::CellsLeft::cells_on))]
     fn next(&mut self) -> Option<SmallRun> {
-        while self.at < self.count {
-            let edge = self.at / 8;
-            let c = self.at % 8;
+        while let Some(at) = self.cells.next() {
+            let edge = at / 8;
+            let c = at % 8;
             let key = self.keys.key_at_unchecked(edge, c);
-            self.at += 1;
             if key.level().number != 0 {
                 return Some(key_run_unchecked(self.s, self.pass, key, edge, c));
             }
