@@ -30,8 +30,8 @@ fn store_narrowed(t: &mut [u8], wide: &[u16; 16])
     t[..16].copy_from_slice(&narrow);
 }
 
-// The first 16 bytes are the line, and those behind it stay as they are. The work without tests, for a caller that has
-// made them.
+// The first 16 bytes are the line, and those behind it stay as they are. The work without tests, for a caller that has made them. It
+// takes the limits apart and no LineStrength, whose depth could be other than 8.
 #[tactic(auto, unfolding(base::specs::Depth::supported))]
 pub fn sample_filtering_bytes_unchecked(t: &mut [u8], size: u8, limit: u8, blimit: u8, thresh: u8)
     requires { 16 ≤ length t.old }
@@ -48,7 +48,8 @@ pub fn sample_filtering_bytes_unchecked(t: &mut [u8], size: u8, limit: u8, blimi
     store_narrowed(t, &wide);
 }
 
-// Takes any bytes and any numbers. A byte is in range at depth 8, so 13 is not looked for. A refusal leaves the bytes as they were.
+// Takes any bytes and any numbers, since C calls it with such. Beside line::sample_filtering, whose work it does, since two refusals
+// differ: a byte is in range at depth 8, so 13 is not looked for, and 7 is, of a list too short. A refusal leaves the bytes as they were.
 pub fn sample_filtering_bytes(
     t: &mut [u8],
     depth: u8,

@@ -1,4 +1,5 @@
 pub mod Masks
+pub mod NatOrdered
 pub mod NarrowFilter
 pub mod NarrowFilterLaws
 pub mod MasksLaws

@@ -55,7 +55,8 @@ fn first_reaching(t: &[u16; 16], bound: u16) -> Option<usize>
     first_place(16, |k| bound <= t[k])
 }
 
-// Takes any samples and any numbers. A refusal leaves the samples as they were.
+// Takes any samples and any numbers, since C calls it with such: a LineStrength is made of what was tested. A refusal leaves the
+// samples as they were.
 #[tactic(auto, unfolding(crate::specs::Line::line, base::specs::Depth::supported), using(base::specs::First::place_found, base::specs::First::no_place))]
 pub fn sample_filtering(
     t: &mut [u16; 16],

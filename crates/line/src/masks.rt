@@ -1,6 +1,8 @@
 // The tests of a line (8.8.5.2), over samples of 16 bits and over bytes. Tests are joined by `&`, which makes no branch, so that
 // a loop over lanes vectorises.
 ghost use Rattle.std.specs.Prelude.{◌≡◌, ◌&&◌, ◌+◌, ◌*◌, ◌/◌, ◌<◌, ℕ, leb, min};
+ghost use Rattle.std.specs.Ordering.{partial_le};
+ghost use Rattle.line.specs.NatOrdered.{nat_ordered};
 ghost use Rattle.base.specs.Notation.{abs_diff};
 ghost use Rattle.lane.specs.LaneSamples.{values_of};
 ghost use Rattle.line.specs.Masks.{hev_mask, filter_mask, flat_mask, flat_mask2};
@@ -8,7 +10,7 @@ ghost use Rattle.line.specs.Masks.{hev_mask, filter_mask, flat_mask, flat_mask2}
 use lane::Lane;
 
 // A sample, or a limit, as the tests take it.
-pub trait Sample: Copy {
+pub trait Sample: Copy + PartialOrd {
     ghost value: { Self → ℕ };
 
     // The greatest.
@@ -17,12 +19,12 @@ pub trait Sample: Copy {
     fn distance(self, other: Self) -> Self
         ensures { value result ≡ abs_diff (value self) (value other) };
 
-    fn at_most(self, limit: Self) -> bool
-        ensures { result ≡ leb (value self) (value limit) };
-
     // The step across the edge, by the distances of its first two taps and of the next: it stops at the greatest number.
     fn step(inner: Self, outer: Self) -> Self
         ensures { value result ≡ min (value inner * 2 + value outer / 2) top };
+
+    // The laws of PartialOrd say that it is an order, and not that it is the order of the values.
+    ghost ordered: { (a b : Self) → partial_le ⟦<Self as PartialOrd>⟧.partial_cmp a b ≡ leb (value a) (value b) };
 }
 
 impl Sample for u16 {
@@ -30,12 +32,10 @@ impl Sample for u16 {
 
     ghost top = { 65535 };
 
+    ghost ordered = { nat_ordered };
+
     fn distance(self, other: u16) -> u16 {
         self.abs_diff(other)
-    }
-
-    fn at_most(self, limit: u16) -> bool {
-        self <= limit
     }
 
     fn step(inner: u16, outer: u16) -> u16 {
@@ -48,12 +48,10 @@ impl Sample for u8 {
 
     ghost top = { 255 };
 
+    ghost ordered = { nat_ordered };
+
     fn distance(self, other: u8) -> u8 {
         self.abs_diff(other)
-    }
-
-    fn at_most(self, limit: u8) -> bool {
-        self <= limit
     }
 
     fn step(inner: u8, outer: u8) -> u8 {
@@ -65,7 +63,7 @@ impl Sample for u8 {
 fn near<T: Sample>(limit: T, a: T, b: T) -> bool
     ensures { result ≡ leb (abs_diff (T.value a) (T.value b)) (T.value limit) }
 {
-    a.distance(b).at_most(limit)
+    a.distance(b) <= limit
 }
 
 // A limit below the greatest number is passed by a step that stops there, as by the whole one.
@@ -73,7 +71,7 @@ fn small_step<T: Sample>(blimit: T, p1: T, p0: T, q0: T, q1: T) -> bool
     requires { T.value blimit < T.top }
     ensures { result ≡ leb (abs_diff (T.value p0) (T.value q0) * 2 + abs_diff (T.value p1) (T.value q1) / 2) (T.value blimit) }
 {
-    T::step(p0.distance(q0), p1.distance(q1)).at_most(blimit)
+    T::step(p0.distance(q0), p1.distance(q1)) <= blimit
 }
 
 pub fn hev_mask<T: Sample>(a: Lane<T>, thresh: T) -> bool

@@ -1,4 +1,5 @@
-// What a wide filter leaves, stored in the line.
+// What a wide filter leaves, stored in the line. Beside `Part` of lanes, which stores the same taps in a table of lanes: one trait for
+// both would take a slice, a start and a step, and ask for room at each store, where these two ask nothing.
 ghost use Rattle.std.specs.Prelude.{◌≡◌};
 ghost use Rattle.lane.specs.LaneSamples.{six_of, fourteen_of, put_taps};
 
