@@ -1,4 +1,3 @@
 pub mod Small
-pub mod DifferenceLaws
 pub mod RaisedFilter
 pub mod RaisedFilterLaws

@@ -120,27 +120,10 @@ lane_more {f} {m} {t} {u} {v} k vs h g n inv is e d =
 pub lanes_fewer : {n m : ℕ} {f : ℕ → List ℕ → List ℕ} {t u : List ℕ} → n ≤ m → EachLane m f t u → EachLane n f t u
 lanes_fewer h all = record { each = λ l b. all.each l (omega arith) }
 
--- ---- samples of 12 bits
-
--- what is read of a whole table is the lane
-pub lane_found : {a : Lane ℕ} (t : List ℕ) (l : ℕ) → length t ≡ 256 → l < 16 → a ≡ lane_in t l a → a ≡ lane_at t l
-lane_found {a} t l n h is = is ∙ whole
-  where
-    at : (i d : ℕ) → i < 256 → get_or t i d ≡ tap t i
-    at i d b = get_or_default_zero t i d (omega arith)
-
-    whole : lane_in t l a ≡ lane_at t l
-    whole =
-        λ i. record { p7 = at l a.p7 (omega arith) i; p6 = at (16 + l) a.p6 (omega arith) i; p5 = at (32 + l) a.p5 (omega arith) i; p4 = at (48 + l) a.p4 (omega arith) i; p3 = at (64 + l) a.p3 (omega arith) i; p2 = at (80 + l) a.p2 (omega arith) i; p1 = at (96 + l) a.p1 (omega arith) i; p0 = at (112 + l) a.p0 (omega arith) i; q0 = at (128 + l) a.q0 (omega arith) i; q1 = at (144 + l) a.q1 (omega arith) i; q2 = at (160 + l) a.q2 (omega arith) i; q3 = at (176 + l) a.q3 (omega arith) i; q4 = at (192 + l) a.q4 (omega arith) i; q5 = at (208 + l) a.q5 (omega arith) i; q6 = at (224 + l) a.q6 (omega arith) i; q7 = at (240 + l) a.q7 (omega arith) i }
-
-pub lane_samples : {a : Lane ℕ} (t : List ℕ) (l : ℕ) → a ≡ lane_at t l → samples_of a ≡ lane_of t l
-unfolding lane_of
-lane_samples t l is = ap samples_of is
-
 -- ---- lanes whose mask is off
 
 module _ (n depth limit blimit : ℕ) where
-  pub none_more : {a : Lane ℕ} (m : ℕ) (t : List ℕ) → a ≡ lane_at t m → filter_mask (scaled depth limit) (scaled depth blimit) (samples_of a) && ltb m n ≡ false → NoneTo m n depth limit blimit t → NoneTo (m + 1) n depth limit blimit t
+  pub none_more : {a : Lane ℕ} (m : ℕ) (t : List ℕ) → samples_of a ≡ lane_of t m → filter_mask (scaled depth limit) (scaled depth blimit) (samples_of a) && ltb m n ≡ false → NoneTo m n depth limit blimit t → NoneTo (m + 1) n depth limit blimit t
   none_more {a} m t is e g = record {
     none = λ l b d. ⊎_elim (λ (x : l < m). g.none l x d) (λ (x : m ≤ l). let y : l ≡ m = omega arith in rw y (last (omega arith))) (split l m);
   }
@@ -151,7 +134,7 @@ module _ (n depth limit blimit : ℕ) where
 
       last : m < n → filter_mask (scaled depth limit) (scaled depth blimit) (lane_of t m) ≡ false
       last h =
-          ap (filter_mask (scaled depth limit) (scaled depth blimit)) (sym (lane_samples t m is))
+          ap (filter_mask (scaled depth limit) (scaled depth blimit)) (sym is)
           ∙ off (filter_mask (scaled depth limit) (scaled depth blimit) (samples_of a)) (rw (lt-ltb m n h) at e)
 
   -- where the mask is off every lane is kept
@@ -185,6 +168,10 @@ module _ {T : Type 0} (value : T → ℕ) where
   pub lane_rest : (m k l : ℕ) (vs u v : List T) → m < 16 → l < 16 → l ≢ m → v ≡ put_lane u m k vs → lane_of (map value v) l ≡ lane_of (map value u) l
   lane_rest m k l vs u v h g n d =
       ap (λ (w : List ℕ). lane_of w l) (ap (map value) d ∙ put_values u m k vs) ∙ put_other (map value u) m k (map value vs) l h g n
+
+-- what is read of a list of numbers
+pub lane_read : {a : Lane ℕ} (t : List ℕ) (l : ℕ) → length t ≡ 256 → l < 16 → a ≡ lane_in t l a → samples_of a ≡ lane_of t l
+lane_read t l n h is = lane_values (λ n. n) t l n h is ∙ ap (λ (u : List ℕ). lane_of u l) (map-id t)
 
 -- a lane of a table of 12 bits is small
 pub small_lane : (t : List ℕ) (l : ℕ) (a : Lane ℕ) → l < 16 → Table t → samples_of a ≡ lane_of (map (λ n. n) t) l → Small a
