@@ -11,7 +11,7 @@ pub mod rows;
 
 use c_border::{Refusal, refusal_of};
 use geometry::pass_numbers::PassNumbers;
-use plane_window::pass_plane;
+use plane_window::{pass_window, window_of};
 use window::WindowShape;
 
 // As springspade_pass, with the numbers behind the window in a record.
@@ -33,5 +33,5 @@ pub fn springspade_pass_window(
         stride,
         top: y_origin,
     };
-    refusal_of(pass_plane(samples, cells, g, numbers))
+    refusal_of(pass_window(window_of(samples, g), cells, numbers))
 }

@@ -14,8 +14,8 @@ use row::mode_info::ModeInfoLists;
 use row::numbers::RowNumbers;
 use row::row_cells;
 
-// Packs the cells of the superblock row at mi_row into the front of cells; words behind them are left. The lists come one by one, and each kind
-// as a number that is tested, since they cross from C.
+// Packs the cells of the superblock row at mi_row into the front of cells; words behind them are left. The lists come one by one, and
+// each kind as a number that is tested, since they cross from C.
 #[tactic(auto, using(c_border::specs::BorderLaws::crossed_as, row::specs::RowLaws::row_place))]
 pub fn springspade_row(
     mi_sizes: &[u8],

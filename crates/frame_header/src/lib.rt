@@ -15,7 +15,8 @@ pub struct LoopFilterParams {
     pub mode_deltas: [Option<i8>; 2],
 }
 
-// segmentation_params( ) of 6.2.11. The features are flat, at segment times 4 plus feature: FeatureData, or None where FeatureEnabled is 0.
+// segmentation_params( ) of 6.2.11. The features are flat, since C lends them so, at segment times 4 plus feature: FeatureData, or None
+// where FeatureEnabled is 0.
 #[derive(Clone, Copy, Debug, PartialEq, Eq)]
 pub struct SegmentationParams {
     pub enabled: bool,

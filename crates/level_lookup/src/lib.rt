@@ -4,7 +4,7 @@
 ghost use Rattle.std.specs.Prelude.{◌≡◌};
 ghost use Rattle.level_lookup.specs.LevelLookup.{zero_levels, lookup_of};
 
-// LvlLookup[ segment ][ ref ][ mode ], flat: at segment times 8 plus reference times 2 plus mode type.
+// LvlLookup[ segment ][ ref ][ mode ], flat, since C lends it so: at segment times 8 plus reference times 2 plus mode type.
 #[derive(Clone, Copy, Debug, PartialEq, Eq)]
 pub struct LvlLookup {
     pub levels: [u8; 64],
@@ -33,8 +33,8 @@ impl LvlLookup {
     }
 }
 
-// The entry of any segment, reference and mode type, of a table that is lent. They are numbers and no enum, as the lists of mode info and C have
-// them, and any is taken.
+// The entry of any segment, reference and mode type, of a table that is lent. They are numbers and no enum, as the lists of mode info
+// and C have them, and any is taken.
 #[tactic(auto, unfolding(crate::specs::LevelLookup::lookup_of))]
 pub fn find_level(levels: &[u8; 64], segment_id: usize, ref_frame: i32, mode: usize) -> Option<u8>
     ensures { result ≡ lookup_of levels.now segment_id ref_frame mode }

@@ -36,15 +36,3 @@ pub fn pass_window<'a, 'b>(
     let PlaneWindow { samples, shape } = w;
     superblock_loop_filter_cells(samples, shape, cells, n)
 }
-
-// The same with samples and shape apart, through the record.
-pub fn pass_plane(
-    samples: &mut [u16],
-    cells: &[u32],
-    g: WindowShape,
-    n: PassNumbers,
-) -> Result<(), Fault>
-    ensures { Answers (pass_over g n cells.now samples.old) (returned_of result) samples.old samples.new }
-{
-    pass_window(window_of(samples, g), cells, n)
-}

@@ -16,7 +16,7 @@ use level_lookup::find_level;
 use strength::mode_to_mode_type;
 
 // What the words of a row are looked up in: its levels, the logarithms of the block sizes, and the largest transform of
-// each size in planes 1 and 2.
+// each size in planes 1 and 2. A list for each, as the standard has them.
 #[derive(Clone, Copy)]
 pub(crate) struct WordTables<'a> {
     levels: &'a [u8; 64],
@@ -48,7 +48,7 @@ impl<'a> WordTables<'a> {
         tx_size.min(self.limits[usize::from(size.number)])
     }
 
-    // What the pass reads of a cell whose size was tested.
+    // What the pass reads of a cell whose size was tested. By a clause here and below: any size is lent, and all are tested first.
     #[tactic(auto, unfolding(crate::specs::Row::cell_from, blocks::specs::ModeInfo::sb_size), using(blocks::specs::BlockSizesLaws::by_size_lem))]
     fn cell_unchecked(&self, mi: CellMi) -> LfCell
         requires { mi.mi_size ≤ 12 }

@@ -5,8 +5,8 @@ use crate::numbers::{is_answer, size16_at, size32_at, u16s_at, u32s_at};
 use base::fault::Fault;
 use cell_records::{CellRecord, record_of};
 use geometry::pass_numbers::PassNumbers;
-use plane_window::pass_plane;
-use record_replay::pass_front_unchecked;
+use plane_window::pass_window;
+use record_pass::pass_records;
 use superblock_pass::superblock_loop_filter_cells;
 use window::WindowShape;
 
@@ -89,7 +89,11 @@ pub(crate) fn is_equal_in_window(record: &[u8; 2728]) -> bool {
     let cells = cells_of(record);
     let lent = &cells[..lent_cells(record)];
     is_equal_by(record, |samples| {
-        pass_plane(samples, lent, window_of(record), numbers_of(record))
+        pass_window(
+            plane_window::window_of(samples, window_of(record)),
+            lent,
+            numbers_of(record),
+        )
     })
 }
 
@@ -105,13 +109,9 @@ fn cell_record(word: u32) -> CellRecord {
 }
 
 pub(crate) fn is_equal_in_records(record: &[u8; 2728]) -> bool {
+    let records = cells_of(record).map(cell_record);
+    let lent = &records[..lent_cells(record)];
     is_equal_by(record, |samples| {
-        pass_front_unchecked(
-            samples,
-            cells_of(record).map(cell_record),
-            lent_cells(record),
-            window_of(record),
-            numbers_of(record),
-        )
+        pass_records(samples, lent, window_of(record), numbers_of(record))
     })
 }

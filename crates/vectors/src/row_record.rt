@@ -3,7 +3,7 @@ ghost use Rattle.std.specs.Prelude.{◌≤◌, ◌<◌, ◌+◌};
 
 use crate::numbers::{i32_at, is_answer, size16_at, u32s_at};
 use cell_records::{CellRecord, record_of, word_of};
-use record_replay::rows::row_front_unchecked;
+use record_row::row_records;
 use row::mode_info::ModeInfoLists;
 use row::numbers::RowNumbers;
 use row::row_cells;
@@ -95,12 +95,12 @@ fn are_records(record: &[u8; 492], records: &[CellRecord; ENTRIES]) -> bool {
 pub(crate) fn is_equal_in_records(record: &[u8; 492]) -> bool {
     let references = references_of(record);
     let mut records = u32s_at(record, 300).map(record_of);
-    let answer = row_front_unchecked(
+    let lent = length_at(record, 16);
+    let answer = row_records(
         lists_of(record, &references),
         &levels_of(record),
         numbers_of(record),
-        &mut records,
-        length_at(record, 16),
+        &mut records[..lent],
     );
     are_lengths(record)
         & is_answer(answer, record[17], usize::from(record[18]))
