@@ -51,6 +51,7 @@ fn depth_of(code: u8) -> u8
     if code < 3 { 8 + 2 * code } else { 0 }
 }
 
+#[tactic(auto, unfolding(crate::specs::SheetHeader::header_of))]
 pub fn header_of_unchecked(sheet: &[u8]) -> SheetHeader
     requires { 8 ≤ length sheet.now }
     ensures { result ≡ header_of sheet.now }
