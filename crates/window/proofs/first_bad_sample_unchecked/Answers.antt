@@ -1,4 +1,4 @@
-use Rattle.std.proofs.Common.{◌≡◌, ◌*◌, sym, ◌∙◌, arith}
+use Rattle.std.proofs.Common.{◌*◌, sym, ◌∙◌, arith}
 use Rattle.base.specs.First.{no_place}
 use Rattle.window.specs.Window.{reaches}
 use Rattle.window.specs.SampleLaws.{row_room, rows_none, rows_more, rows_found}

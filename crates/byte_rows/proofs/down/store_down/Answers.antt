@@ -1,5 +1,5 @@
 use Rattle.std.proofs.Common.{arith}
-use Rattle.lane_runs.specs.RowCopiesLaws.{table_rows, run_rows, rows_stored}
+use Rattle.lane_runs.specs.RowCopiesLaws.{rows_stored}
 use Rattle.byte_rows.proofs.down.store_down.Goals as goal
 
 pub returns-then-all : goal.returns-then-all
