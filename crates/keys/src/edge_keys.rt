@@ -1,5 +1,5 @@
 // The keys of a pass, as both passes and the run sheet go by them.
-ghost use Rattle.std.specs.Prelude.{◌≡◌, ◌<◌};
+ghost use Rattle.std.specs.Prelude.{◌≡◌, ◌<◌, length};
 ghost use Rattle.keys.specs.Keyed.{Keyed, key_for, keys_along};
 
 use base::key::Key;
@@ -19,7 +19,7 @@ impl Keys {
     #[tactic(auto, unfolding(crate::specs::Keyed::keys_along))]
     pub fn of_edge_unchecked(&self, edge: usize) -> &[u8]
         requires { edge < 16 }
-        ensures { result.now ≡ keys_along self.now.outer self.now.inner edge }
+        ensures { (result.now ≡ keys_along self.now.outer self.now.inner edge) × (length result.now ≡ 8) }
     {
         let keys = if edge % 2 == 0 {
             &self.outer
