@@ -54,6 +54,7 @@ pub fn number_faults(n: PassNumbers, known: bool, lent: usize) -> Result<(), Fau
 }
 
 // Refusals 11 to 13, once the numbers are tested. Refusal 14 is left to those who decide.
+// That there are cells enough is a fact of cells and superblock together, and no value carries both.
 #[tactic(auto, using(window::specs::WindowLaws::lent))]
 pub fn list_faults_unchecked<S: PlaneSample, C: Words>(
     samples: &[S],

@@ -10,6 +10,7 @@ use base::depth::{Depth, is_supported};
 use border_position::sample::LentSample;
 use window::{WindowShape, first_bad_sample_unchecked};
 
+// That the width admits a depth is a clause of contracts: a type of such depths would be generic over a sample that it does not hold.
 pub trait PlaneSample: LentSample {
     // Of a list of samples, the list of their numbers.
     ghost values: { List Self → List ℕ };
@@ -26,13 +27,6 @@ pub trait PlaneSample: LentSample {
     ghost each: { (samples : List Self) → map Self.value samples ≡ values samples };
 }
 
-// 2 to the depth.
-fn sample_bound(depth: Depth) -> u16
-    ensures { result ≡ 2 ^ depth.bits }
-{
-    1u16 << depth.bits
-}
-
 impl PlaneSample for u16 {
     ghost values = { λ samples. samples };
 
@@ -41,7 +35,7 @@ impl PlaneSample for u16 {
     }
 
     fn first_bad_unchecked(samples: &[u16], g: WindowShape, depth: Depth) -> Option<usize> {
-        first_bad_sample_unchecked(samples, g, sample_bound(depth))
+        first_bad_sample_unchecked(samples, g, depth.bound())
     }
 
     ghost each = { map-id };
