@@ -8,7 +8,7 @@ use Rattle.pass.proofs.edge.filter_keys.Goals as goal
 pub filter_run_unchecked-requires : goal.filter_run_unchecked-requires
 filter_run_unchecked-requires c =
     let loop = c.loop-small.invariant in
-    (loop.1, omega (arith, c.plane_x-x.ensures.1), omega (arith, c.plane_y-y.ensures.1), c.in-Some.small.small.count, range_wider _ _ 4096 _ (depth_12 _ c.args.depth.known) loop.2)
+    (loop.1, omega (arith, c.plane_x-x.ensures.1), omega (arith, c.plane_y-y.ensures.1), omega (arith, c.in-Some.small.small.count), range_wider _ _ 4096 _ (depth_12 _ c.args.depth.known) loop.2)
 
 pub loop-small-preserved : goal.loop-small-preserved
 loop-small-preserved c =
@@ -16,9 +16,10 @@ loop-small-preserved c =
     let loop = c.loop-small in
     let run = c.in-Some.small.of in
     let steps = c.in-Some.ensures.steps in
+    let f = c.new-f.ensures in
     let rest = runs_left c.next.new.self in
     let filtered = filtered_on a.g a.s.of a.pass a.sharpness.level a.depth.bits run steps.1 _ _ _
-    c.plane_x-x.ensures.0 c.plane_y-y.ensures.0 c.strength-strength.ensures _ _ c.filter_run_unchecked.ensures in
+    c.plane_x-x.ensures.0 c.plane_y-y.ensures.0 c.strength-strength.ensures _ _ (rw (f.0, f.1, f.2, f.3) at c.filter_run_unchecked.ensures) in
     let on = after_run a.s.of a.pass a.sharpness.level a.depth.bits run loop.invariant.1 loop.invariant.2 a.depth.known filtered in (
       c.in-Some.ensures.goes.keeps,
       on.0,
