@@ -1,15 +1,14 @@
 -- The keys of a chunk: each position of an edge has the key of its cell.
 -- Assumes nothing.
-use Rattle.std.specs.Prelude.{◌≡◌, List, ℕ, ◌+◌, ◌*◌, ◌/◌, ◌<◌, get_or, replicate}
-use Rattle.base.specs.Filled.{filled}
-use Rattle.geometry.specs.declared.Pass.{Pass}
-use Rattle.geometry.specs.declared.Superblock.{Superblock}
-use Rattle.pass.specs.Chunks.{key_along}
+use Rattle.std.specs.Prelude.{◌≡◌, List, ℕ, ◌/◌, ◌%◌, ◌<◌, get_or, length, Option, MatchOption}
+use Rattle.byte_lanes.specs.declared.lane_keys.LaneKeys.{LaneKeys}
 
--- 16 keys, those of cells from a place on, each for len positions
-unfoldable pub spread : (at len : ℕ) (keys : List ℕ) → List ℕ
-spread at len keys = filled (λ k. get_or keys (at + k / len) 0) 0 16 (replicate 16 0)
+-- the keys of the cells of 16 positions, len to a cell
+pub record CellKeys (len : ℕ) (cells : List ℕ) : Type 0 where
+  pub some : 0 < len
+  pub enough : (k : ℕ) → k < 16 → k / len < length cells
+  pub small : (k : ℕ) → k < 16 → get_or cells (k / len) 0 < 192
 
--- the keys of the positions of chunk m of an edge
-abbrev pub KeysAlong : Superblock → Pass → (outer inner : List ℕ) (edge m : ℕ) (keys : List ℕ) → Type 0
-KeysAlong s pass outer inner edge m keys = (k : ℕ) → k < 16 → get_or keys k 0 ≡ key_along s pass outer inner edge (16 * m + k)
+-- the keys of 16 positions, or none where none of them is filtered
+abbrev pub KeysIfAny : (key : ℕ → ℕ) → Option LaneKeys → Type 0
+KeysIfAny key given = MatchOption given ((k : ℕ) → k < 16 → key k % 64 ≡ 0) (λ keys. (k : ℕ) → k < 16 → get_or keys.of k 0 ≡ key k)

@@ -22,7 +22,7 @@ fn filter_keyed(samples: &mut [u8], w: &ByteWork, p: Position, key: Key)
     let level = key.level();
     if 0 < level.number {
         let strength = w.limits.strength(level, w.sharpness);
-        let f = LineStrength::new(Depth { bits: 8 }, strength);
+        let f = LineStrength::new(Depth::EIGHT, strength);
         filter_position_unchecked(samples, w.g, p, key.size(), f);
     }
 }
@@ -38,6 +38,7 @@ pub(crate) fn filter_border(
     requires { Lent w.now.g (length samples.old) × (first ≤ 16) }
     ensures { samples.new ≡ in_turn (λ k. keyed_run w.now.g start.pass start.x start.y w.now.sharpness.level 8 (λ j. get_or keys.now.of j 0) (first + k)) (16 - first) samples.old }
 {
+    // By number: a position is made of its place, and those of a chunk are no list.
     for (j, key) in keys.of[first..].iter().enumerate() {
         let p = start.position_unchecked(first + j);
         filter_keyed(samples, w, p, Key { number: *key });

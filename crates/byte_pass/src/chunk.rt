@@ -2,18 +2,52 @@
 ghost use Rattle.std.specs.Prelude.{◌≡◌, true, ◌*◌, ◌/◌, ◌≤◌, ◌<◌, length, get_or};
 ghost use Rattle.pass.specs.Chunks.{keyed_run, chunk};
 ghost use Rattle.pass_edges.specs.PassEdges.{edge_count, edge_len};
+ghost use Rattle.positions.specs.Positions.{plane_x, plane_y};
 ghost use Rattle.window.specs.InsideRun.{inside_run};
 ghost use Rattle.window.specs.Stencil.{in_turn};
 ghost use Rattle.window.specs.WindowLaws.{Lent};
 
 use crate::border::filter_border;
-use crate::chunk_keys::{chunk_filters, chunk_keys};
+use crate::chunk_keys::chunk_keys;
 use crate::work::ByteWork;
 use byte_chunks::filter_chunk_unchecked;
 use byte_lanes::lane_keys::LaneKeys;
+use geometry::Pass;
 use keys::Keys;
-use positions::EdgePosition;
+use positions::{EdgePosition, PlacedSuperblock};
 use tap_places::run_start::RunStart;
+
+// Chunk m of an edge: its positions from 16 m on.
+#[derive(Clone, Copy)]
+pub(crate) struct Chunk {
+    pub s: PlacedSuperblock,
+    pub pass: Pass,
+    pub edge: usize,
+    pub m: usize,
+    pub ghost edge_small: { edge < edge_count s.of pass },
+    pub ghost m_small: { m < edge_len s.of pass / 16 },
+}
+
+impl Chunk {
+    #[tactic(auto, using(pass_edges::specs::PassEdgesLaws::edge_count_small, pass_edges::specs::PassEdgesLaws::edge_len_small))]
+    fn start(self) -> RunStart
+        ensures { (result.pass ≡ self.pass) × (result.x ≡ plane_x self.s.of self.pass self.edge (16 * self.m)) × (result.y ≡ plane_y self.s.of self.pass self.edge (16 * self.m)) }
+    {
+        let first = EdgePosition {
+            s: self.s,
+            pass: self.pass,
+            edge: self.edge,
+            i: 16 * self.m,
+        };
+        let x = first.plane_x();
+        let y = first.plane_y();
+        RunStart {
+            pass: self.pass,
+            x: x.0,
+            y: y.0,
+        }
+    }
+}
 
 // The first n positions of a chunk, whose taps are all in the window, in lanes.
 fn filter_inside(samples: &mut [u8], w: &ByteWork, start: RunStart, n: usize, keys: &LaneKeys)
@@ -36,26 +70,11 @@ fn filter_at(samples: &mut [u8], w: &ByteWork, start: RunStart, keys: &LaneKeys)
     filter_border(samples, w, start, keys, n);
 }
 
-// Chunk m of an edge.
-pub(crate) fn filter_chunk(samples: &mut [u8], w: &ByteWork, keys: &Keys, edge: usize, m: usize)
-    requires { Lent w.now.g (length samples.old) × (edge < edge_count w.now.s.of w.now.pass) × (m < edge_len w.now.s.of w.now.pass / 16) }
-    ensures { samples.new ≡ chunk w.now.g w.now.s.of w.now.pass w.now.sharpness.level 8 keys.now.outer keys.now.inner edge (16 * m) 16 samples.old }
+pub(crate) fn filter_chunk(samples: &mut [u8], w: &ByteWork, keys: &Keys, c: Chunk)
+    requires { Lent w.now.g (length samples.old) }
+    ensures { samples.new ≡ chunk w.now.g c.s.of c.pass w.now.sharpness.level 8 keys.now.outer keys.now.inner c.edge (16 * c.m) 16 samples.old }
 {
-    if chunk_filters(keys, w.s.of, w.pass, edge, m) {
-        let along = chunk_keys(keys, w.s.of, w.pass, edge, m);
-        let first = EdgePosition {
-            s: w.s,
-            pass: w.pass,
-            edge,
-            i: 16 * m,
-        };
-        let x = first.plane_x();
-        let y = first.plane_y();
-        let start = RunStart {
-            pass: w.pass,
-            x: x.0,
-            y: y.0,
-        };
-        filter_at(samples, w, start, &along);
+    if let Some(along) = chunk_keys(keys, c) {
+        filter_at(samples, w, c.start(), &along);
     }
 }

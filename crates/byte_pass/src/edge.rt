@@ -4,7 +4,7 @@ ghost use Rattle.pass.specs.Chunks.{edge_chunks, pass_chunks};
 ghost use Rattle.pass_edges.specs.PassEdges.{edge_count, edge_len};
 ghost use Rattle.window.specs.WindowLaws.{Lent};
 
-use crate::chunk::filter_chunk;
+use crate::chunk::{Chunk, filter_chunk};
 use crate::work::ByteWork;
 use base::sharpness::Sharpness;
 use geometry::Pass;
@@ -14,13 +14,20 @@ use positions::PlacedSuperblock;
 use strength::limits_table;
 use window::WindowShape;
 
-fn filter_edge(samples: &mut [u8], w: &ByteWork, keys: &Keys, edge: usize)
-    requires { Lent w.now.g (length samples.old) × (edge < edge_count w.now.s.of w.now.pass) }
-    ensures { samples.new ≡ edge_chunks w.now.g w.now.s.of w.now.pass w.now.sharpness.level 8 keys.now.outer keys.now.inner edge (edge_len w.now.s.of w.now.pass / 16) samples.old }
+fn filter_edge(
+    samples: &mut [u8],
+    w: &ByteWork,
+    keys: &Keys,
+    s: PlacedSuperblock,
+    pass: Pass,
+    edge: usize,
+)
+    requires { Lent w.now.g (length samples.old) × (edge < edge_count s.of pass) }
+    ensures { samples.new ≡ edge_chunks w.now.g s.of pass w.now.sharpness.level 8 keys.now.outer keys.now.inner edge (edge_len s.of pass / 16) samples.old }
 {
     // Chunks are numbers here: an edge is no list that could be cut into them.
-    for m in 0..edge_len(w.s.of, w.pass) / 16 {
-        filter_chunk(samples, w, keys, edge, m);
+    for m in 0..edge_len(s.of, pass) / 16 {
+        filter_chunk(samples, w, keys, Chunk { s, pass, edge, m });
     }
 }
 
@@ -38,13 +45,11 @@ pub(crate) fn filter_keys(
 {
     let w = ByteWork {
         g,
-        s,
-        pass,
         sharpness,
         limits: limits_table(),
     };
-    // So are edges.
+    // Edges are numbers here: a pass has no list of them.
     for edge in 0..edge_count(s.of, pass) {
-        filter_edge(samples, &w, keys, edge);
+        filter_edge(samples, &w, keys, s, pass, edge);
     }
 }

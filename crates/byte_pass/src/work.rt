@@ -1,15 +1,11 @@
 // What a pass over bytes goes by, beside its samples and its keys.
 use base::sharpness::Sharpness;
-use geometry::Pass;
-use positions::PlacedSuperblock;
 use strength::LimitTable;
 use window::WindowShape;
 
 #[derive(Clone, Copy)]
 pub(crate) struct ByteWork {
     pub g: WindowShape,
-    pub s: PlacedSuperblock,
-    pub pass: Pass,
     pub sharpness: Sharpness,
     pub limits: LimitTable,
 }

@@ -1,41 +1,34 @@
-use Rattle.std.proofs.Common.{arith}
-use Rattle.pass_edges.specs.PassEdgesLaws.{edge_count_small}
-use Rattle.byte_pass.specs.ChunkKeysLaws.{asked, outer_keys, inner_keys}
-use Rattle.byte_lanes.specs.ByteLanes.{Keys}
-use Rattle.byte_pass.specs.ChunkKeys.{KeysAlong}
+use Rattle.std.proofs.Common.{sym, ◌∙◌}
+use Rattle.byte_pass.specs.ChunkKeysLaws.{Cells, eights, fours}
 use Rattle.byte_pass.proofs.chunk_keys.chunk_keys.Goals as goal
-use Rattle.byte_pass.proofs.chunk_keys.chunk_keys.Goals.{After-edge_keys, After-edge_keys-2}
+use Rattle.byte_pass.proofs.chunk_keys.chunk_keys.Goals.{Then-along-eq8, Else-along-eq8}
 
-pub overflow_mul-at : goal.overflow_mul-at
-overflow_mul-at c = omega (arith, c.requires.0, edge_count_small c.args.s c.args.pass)
-
-pub edge_keys-requires : goal.edge_keys-requires
-edge_keys-requires c = rw c.along-len.ensures.0 (asked c.args.s c.args.pass _ _ c.requires.0 c.requires.1)
-
-pub edge_keys-requires-2 : goal.edge_keys-requires-2
-edge_keys-requires-2 c = rw c.along-len.ensures.0 (asked c.args.s c.args.pass _ _ c.requires.0 c.requires.1)
-
--- the keys of the even edges, and of the odd ones
-outer : (c : After-edge_keys) → let a = c.args in KeysAlong a.s a.pass a.keys.now.outer a.keys.now.inner a.edge a.m c.edge_keys.result × Keys c.edge_keys.result
-outer c =
+two : (c : Then-along-eq8) → let a = c.args in Cells a.c.s.of a.c.pass a.keys.now.outer a.keys.now.inner a.c.edge a.c.m 8 2 c.of_edge_unchecked-cells.result.now
+two c =
     let a = c.args in
-    outer_keys a.s a.pass a.keys.now.outer a.keys.now.inner a.edge a.m a.keys.now.keyed (omega (arith, c.requires.0, edge_count_small a.s a.pass)) c.requires.1 _ c.if-edge-eq0.true
-    (rw c.along-len.ensures.0 at c.edge_keys.ensures)
+    let cells = c.of_edge_unchecked-cells.ensures in
+    eights a.c.s.of a.c.pass _ _ a.c.edge a.c.m _ a.keys.now.keyed a.c.edge_small a.c.m_small cells.0 cells.1 (sym c.along.ensures.0 ∙ c.if-along-eq8.true)
 
-inner : (c : After-edge_keys-2) → let a = c.args in KeysAlong a.s a.pass a.keys.now.outer a.keys.now.inner a.edge a.m c.edge_keys-2.result × Keys c.edge_keys-2.result
-inner c =
+four : (c : Else-along-eq8) → let a = c.args in Cells a.c.s.of a.c.pass a.keys.now.outer a.keys.now.inner a.c.edge a.c.m 4 4 c.of_edge_unchecked-cells.result.now
+four c =
     let a = c.args in
-    inner_keys a.s a.pass a.keys.now.outer a.keys.now.inner a.edge a.m a.keys.now.keyed (omega (arith, c.requires.0, edge_count_small a.s a.pass)) c.requires.1 _ (omega (arith, c.if-edge-eq0.false))
-    (rw c.along-len.ensures.0 at c.edge_keys-2.ensures)
+    let cells = c.of_edge_unchecked-cells.ensures in
+    fours a.c.s.of a.c.pass _ _ a.c.edge a.c.m _ a.keys.now.keyed a.c.edge_small a.c.m_small cells.0 cells.1 (λ e. c.if-along-eq8.false (c.along.ensures.0 ∙ e))
 
-pub invariant_of-result : goal.invariant_of-result
-invariant_of-result c = record { keyed = (outer (goal.at.invariant_of-result c).After-edge_keys).1 }
+pub slice_bounds-keys_of_cells-end : goal.slice_bounds-keys_of_cells-end
+slice_bounds-keys_of_cells-end c = (two c).inside
 
-pub returns-then-edge-eq0 : goal.returns-then-edge-eq0
-returns-then-edge-eq0 c = (outer (goal.at.returns-then-edge-eq0 c).After-edge_keys).0
+pub keys_of_cells-requires : goal.keys_of_cells-requires
+keys_of_cells-requires c = (two (goal.at.keys_of_cells-requires c).Then-along-eq8).asked
 
-pub invariant_of-result-2 : goal.invariant_of-result-2
-invariant_of-result-2 c = record { keyed = (inner (goal.at.invariant_of-result-2 c).After-edge_keys-2).1 }
+pub returns-then-along-eq8 : goal.returns-then-along-eq8
+returns-then-along-eq8 c = (two (goal.at.returns-then-along-eq8 c).Then-along-eq8).told _ c.keys_of_cells.ensures
+
+pub slice_bounds-keys_of_cells-end-2 : goal.slice_bounds-keys_of_cells-end-2
+slice_bounds-keys_of_cells-end-2 c = (four (goal.at.slice_bounds-keys_of_cells-end-2 c).Else-along-eq8).inside
+
+pub keys_of_cells-requires-2 : goal.keys_of_cells-requires-2
+keys_of_cells-requires-2 c = (four (goal.at.keys_of_cells-requires-2 c).Else-along-eq8).asked
 
 pub returns : goal.returns
-returns c = (inner (goal.at.returns c).After-edge_keys-2).0
+returns c = (four (goal.at.returns c).Else-along-eq8).told _ c.keys_of_cells-2.ensures

@@ -8,7 +8,7 @@ loop-m-init c = edge_chunks_none _ _ _ _ _ _ _ _ _
 pub filter_chunk-requires : goal.filter_chunk-requires
 filter_chunk-requires c =
     let long = ap length c.loop-m.invariant ∙ edge_chunks-length _ _ _ _ _ _ _ _ _ _ in
-    (rw long c.requires.0, c.requires.1, rw c.edge_len-m-end.ensures.0 at c.loop-m-test.true)
+    rw long c.requires.0
 
 pub loop-m-preserved : goal.loop-m-preserved
 loop-m-preserved c = edge_chunks_next _ _ _ _ _ _ _ _ c.loop-m.m _ _ _ c.filter_chunk.ensures c.loop-m.invariant
