@@ -6,13 +6,8 @@ ghost use Rattle.decided.specs.Decided.{setting_of};
 ghost use Rattle.pass.specs.Pass.{superblock_loop_filter, superblock_loop_filter_cells};
 ghost use Rattle.pass_edges.specs.PassEdges.{pass_of};
 
-use base::depth::Depth;
-use base::sharpness::Sharpness;
-use decided::superblock_of;
 use geometry::pass_numbers::PassNumbers;
-use pass_edges::pass_of;
-use positions::PlacedSuperblock;
-use superblock_pass::setting::PassSetting;
+use superblock_pass::setting::setting_of_unchecked;
 use superblock_pass::superblock_loop_filter_unchecked;
 use window::WindowShape;
 
@@ -57,13 +52,5 @@ pub fn springspade_pass_unchecked(
         plane,
         pass,
     };
-    let s = superblock_of(n);
-    let t = PassSetting {
-        s: PlacedSuperblock { of: s },
-        pass: pass_of(pass),
-        chroma: 0 < plane,
-        sharpness: Sharpness { level: sharpness },
-        depth: Depth { bits: bit_depth },
-    };
-    superblock_loop_filter_unchecked(samples, g, cells, t);
+    superblock_loop_filter_unchecked(samples, g, cells, setting_of_unchecked(n));
 }

@@ -18,17 +18,12 @@ ghost use Rattle.superblock_pass.specs.SettingBy.{setting_by};
 pub mod sample;
 pub mod setting;
 
-use base::depth::Depth;
 use base::fault::Fault;
-use base::sharpness::Sharpness;
-use decided::superblock_of;
 use faults::{list_faults_unchecked, number_faults};
 use geometry::pass_numbers::PassNumbers;
 use keys::keys_unchecked;
-use pass_edges::pass_of;
-use positions::PlacedSuperblock;
 use sample::PassSample;
-use setting::PassSetting;
+use setting::{PassSetting, setting_of_unchecked};
 use window::WindowShape;
 use word_bytes::Words;
 
@@ -89,14 +84,5 @@ pub fn superblock_loop_filter_cells<S: PassSample, C: Words>(
     ensures { Answers (superblock_loop_filter_cells S.width g n.sharpness n.bit_depth n.sub_x n.sub_y n.mi_cols n.mi_rows n.mi_row n.mi_col n.plane n.pass (C.words cells) (S.values samples.old)) (returned_of result) (S.values samples.old) (S.values samples.new) }
 {
     number_faults(n, S::admits(n.bit_depth), cells.count())?;
-    let t = PassSetting {
-        s: PlacedSuperblock {
-            of: superblock_of(n),
-        },
-        pass: pass_of(n.pass),
-        chroma: 0 < n.plane,
-        sharpness: Sharpness { level: n.sharpness },
-        depth: Depth { bits: n.bit_depth },
-    };
-    test_lists_and_filter(samples, g, cells, t)
+    test_lists_and_filter(samples, g, cells, setting_of_unchecked(n))
 }

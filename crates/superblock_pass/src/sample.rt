@@ -10,6 +10,7 @@ use faults::sample::PlaneSample;
 use keys::Keys;
 use window::WindowShape;
 
+// That the width admits the depth is a clause of contracts, as at PlaneSample.
 pub trait PassSample: PlaneSample {
     // By the keys that cells tell, the pass over these cells.
     fn filter_keys_unchecked(samples: &mut [Self], g: WindowShape, t: PassSetting, keys: &Keys)

@@ -27,27 +27,21 @@ returns-in_err-number_faults g c =
     let e = err_from_is_err_and c.from_residual.result c.from_residual.ensures.1 in
     rw (tested _, e.1, e.2) (refl, refl)
 
-pub invariant_of-t : goal.invariant_of-t
-invariant_of-t g c =
+pub setting_of_unchecked-requires : goal.setting_of_unchecked-requires
+setting_of_unchecked-requires g c =
     let n = passed_by c.args.n _ _ c.in_ok-number_faults.ensures in
-    rw c.superblock_of.ensures (record { placed = n.placed_at _ _ })
-
-pub invariant_of-t-2 : goal.invariant_of-t-2
-invariant_of-t-2 g c = record { small = (passed_by c.args.n _ _ c.in_ok-number_faults.ensures).sharpness_fits }
-
-pub invariant_of-t-3 : goal.invariant_of-t-3
-invariant_of-t-3 g c =
-    let n = passed_by c.args.n _ _ c.in_ok-number_faults.ensures in
-    record { known = admits-supported _ _ (rw c.admits.ensures at n.depth_known) }
+    record { sharpness = n.sharpness_fits; depth = admits-supported _ _ (rw c.admits.ensures at n.depth_known); placed = n.placed_at _ _ }
 
 pub test_lists_and_filter-requires : goal.test_lists_and_filter-requires
 test_lists_and_filter-requires g c =
     let n = passed_by c.args.n _ _ c.in_ok-number_faults.ensures in
-    (rw (c.superblock_of.ensures, ← c.count.ensures) n.cells_lent_lem, rw c.admits.ensures at n.depth_known)
+    let e = c.setting_of_unchecked.ensures in
+    (rw (e.s, ← c.count.ensures) n.cells_lent_lem, rw e.depth (rw c.admits.ensures at n.depth_known))
 
 pub returns : goal.returns
 unfolding superblock_loop_filter_cells
 returns g c =
     let a = c.args in
     let tested : (after : Outcome (List ℕ)) → refused_by a.n (admits g.S.LentSample.width a.n.bit_depth) (length (g.C.Words.words a.cells)) after ≡ after = λ after. rw (c.admits.ensures, c.count.ensures) at (c.in_ok-number_faults.ensures after) in
-    answers_on _ _ _ _ _ (tested _) (rw (c.pass_of.ensures, c.superblock_of.ensures) at c.test_lists_and_filter.ensures)
+    let e = c.setting_of_unchecked.ensures in
+    answers_on _ _ _ _ _ (tested _) (rw (e.s, e.pass, e.chroma, e.sharpness, e.depth) at c.test_lists_and_filter.ensures)
