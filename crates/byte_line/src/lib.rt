@@ -39,7 +39,7 @@ pub fn sample_filtering_bytes_unchecked(t: &mut [u8], size: u8, limit: u8, blimi
 {
     let mut wide = widened(t);
     let f = LineStrength {
-        depth: Depth { bits: 8 },
+        depth: Depth::EIGHT,
         limit,
         blimit,
         thresh,

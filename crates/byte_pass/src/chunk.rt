@@ -33,19 +33,12 @@ impl Chunk {
     fn start(self) -> RunStart
         ensures { (result.pass ≡ self.pass) × (result.x ≡ plane_x self.s.of self.pass self.edge (16 * self.m)) × (result.y ≡ plane_y self.s.of self.pass self.edge (16 * self.m)) }
     {
-        let first = EdgePosition {
+        RunStart::from(EdgePosition {
             s: self.s,
             pass: self.pass,
             edge: self.edge,
             i: 16 * self.m,
-        };
-        let x = first.plane_x();
-        let y = first.plane_y();
-        RunStart {
-            pass: self.pass,
-            x: x.0,
-            y: y.0,
-        }
+        })
     }
 }
 

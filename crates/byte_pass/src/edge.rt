@@ -6,9 +6,9 @@ ghost use Rattle.window.specs.WindowLaws.{Lent};
 
 use crate::chunk::{Chunk, filter_chunk};
 use crate::work::ByteWork;
-use base::sharpness::Sharpness;
 use geometry::Pass;
 use keys::Keys;
+use pass::setting::PassSetting;
 use pass_edges::{edge_count, edge_len};
 use positions::PlacedSuperblock;
 use strength::limits_table;
@@ -35,21 +35,19 @@ fn filter_edge(
 pub(crate) fn filter_keys(
     samples: &mut [u8],
     g: WindowShape,
-    s: PlacedSuperblock,
-    pass: Pass,
-    sharpness: Sharpness,
+    t: PassSetting,
     keys: &Keys,
 )
     requires { Lent g (length samples.old) }
-    ensures { samples.new ≡ pass_chunks g s.of pass sharpness.level 8 keys.now.outer keys.now.inner (edge_count s.of pass) samples.old }
+    ensures { samples.new ≡ pass_chunks g t.s.of t.pass t.sharpness.level 8 keys.now.outer keys.now.inner (edge_count t.s.of t.pass) samples.old }
 {
     let w = ByteWork {
         g,
-        sharpness,
+        sharpness: t.sharpness,
         limits: limits_table(),
     };
     // Edges are numbers here: a pass has no list of them.
-    for edge in 0..edge_count(s.of, pass) {
-        filter_edge(samples, &w, keys, s, pass, edge);
+    for edge in 0..edge_count(t.s.of, t.pass) {
+        filter_edge(samples, &w, keys, t.s, t.pass, edge);
     }
 }

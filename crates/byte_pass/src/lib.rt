@@ -11,24 +11,20 @@ mod chunk_keys;
 mod edge;
 mod work;
 
-use base::sharpness::Sharpness;
 use edge::filter_keys;
-use geometry::Pass;
 use keys::Keys;
-use positions::PlacedSuperblock;
+use pass::setting::PassSetting;
 use window::WindowShape;
 
 // By the keys that cells tell, the pass over these cells.
 pub fn filter_keys_unchecked(
     samples: &mut [u8],
     g: WindowShape,
-    s: PlacedSuperblock,
-    pass: Pass,
-    sharpness: Sharpness,
+    t: PassSetting,
     keys: &Keys,
 )
     requires { Lent g (length samples.old) }
-    ensures { FilteredBy g s.of pass sharpness.level 8 keys.now samples.old samples.new }
+    ensures { FilteredBy g t.s.of t.pass t.sharpness.level 8 keys.now samples.old samples.new }
 {
-    filter_keys(samples, g, s, pass, sharpness, keys);
+    filter_keys(samples, g, t, keys);
 }

@@ -68,10 +68,8 @@ pub fn sample_filtering(
 ) -> Result<(), Fault>
     ensures { Answers (line U16 depth size limit blimit thresh t.old) (returned_of result) t.old t.new }
 {
-    let Some(depth) = Depth::new(depth) else {
-        return Err(Fault::Depth);
-    };
-    if let Some(k) = first_reaching(t, 1 << depth.bits) {
+    let depth = Depth::try_from(depth)?;
+    if let Some(k) = first_reaching(t, depth.bound()) {
         return Err(Fault::Sample(k));
     }
     if 2 < size {

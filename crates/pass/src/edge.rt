@@ -5,44 +5,38 @@ ghost use Rattle.pass.specs.WorkLaws.{runs_filtered};
 ghost use Rattle.window.specs.RangeLaws.{InRange};
 ghost use Rattle.window.specs.WindowLaws.{Lent};
 
-use base::depth::Depth;
+use crate::setting::PassSetting;
 use base::level::Level;
-use base::sharpness::Sharpness;
 use decided::PassRuns;
-use geometry::Pass;
 use keys::Keys;
 use line::line_strength::LineStrength;
-use positions::{EdgePosition, PlacedSuperblock};
+use positions::EdgePosition;
 use runs::filter_run_unchecked;
 use strength::limits_table;
+use tap_places::run_start::RunStart;
 use window::WindowShape;
 
 // The work by the keys of the pass.
 pub(crate) fn filter_keys(
     samples: &mut [u16],
     g: WindowShape,
-    s: PlacedSuperblock,
-    pass: Pass,
-    sharpness: Sharpness,
-    depth: Depth,
+    t: PassSetting,
     keys: &Keys,
 )
-    requires { Lent g (length samples.old) × InRange g (2 ^ depth.bits) samples.old }
-    ensures { samples.new ≡ runs_filtered g s.of pass sharpness.level depth.bits (key_runs s.of pass keys.now.outer keys.now.inner) samples.old }
+    requires { Lent g (length samples.old) × InRange g (2 ^ t.depth.bits) samples.old }
+    ensures { samples.new ≡ runs_filtered g t.s.of t.pass t.sharpness.level t.depth.bits (key_runs t.s.of t.pass keys.now.outer keys.now.inner) samples.old }
 {
     let limits = limits_table();
-    for small in PassRuns::new(s.of, pass, keys) {
+    for small in PassRuns::new(t.s.of, t.pass, keys) {
         let a = small.of;
-        let start = EdgePosition {
-            s,
-            pass,
+        let start = RunStart::from(EdgePosition {
+            s: t.s,
+            pass: t.pass,
             edge: a.edge,
             i: a.first,
-        };
-        let x = start.plane_x();
-        let y = start.plane_y();
-        let strength = limits.strength(Level { number: a.level }, sharpness);
-        let f = LineStrength::new(depth, strength);
-        filter_run_unchecked(samples, g, pass, x, y, a.count, a.size, f);
+        });
+        let strength = limits.strength(Level { number: a.level }, t.sharpness);
+        let f = LineStrength::new(t.depth, strength);
+        filter_run_unchecked(samples, g, start, a.count, a.size, f);
     }
 }

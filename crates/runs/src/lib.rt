@@ -11,33 +11,25 @@ ghost use Rattle.window.specs.RangeLaws.{InRange};
 mod border;
 
 use border::filter_border;
-use geometry::{Pass, Plane};
 use lane_runs::filter_lane_run_unchecked;
 use line::line_strength::LineStrength;
 use tap_places::run_start::RunStart;
 use window::WindowShape;
 
-// n positions along an edge by one filter size and strength, the first with q0 at (x, y). Inside the window they are filtered in
+// n positions along an edge by one filter size and strength. Inside the window they are filtered in
 // lanes, which ask for samples of 12 bits. The work without tests, for a caller that has made them. The size is the standard's number,
 // which 8.8.3 computes and keys pack.
 pub fn filter_run_unchecked(
     samples: &mut [u16],
     g: WindowShape,
-    pass: Pass,
-    x: Plane,
-    y: Plane,
+    start: RunStart,
     n: usize,
     size: u8,
     f: LineStrength,
 )
-    requires { Lent g (length samples.old) × (x.0 ≤ 131072) × (y.0 ≤ 131072) × (n ≤ 16) × InRange g 4096 samples.old }
-    ensures { samples.new ≡ in_turn (run_of g pass x.0 y.0 (sample_filtering f.depth.bits size f.limit f.blimit f.thresh)) n samples.old }
+    requires { Lent g (length samples.old) × (n ≤ 16) × InRange g 4096 samples.old }
+    ensures { samples.new ≡ in_turn (run_of g start.pass start.x start.y (sample_filtering f.depth.bits size f.limit f.blimit f.thresh)) n samples.old }
 {
-    let start = RunStart {
-        pass,
-        x: x.0,
-        y: y.0,
-    };
     if start.is_inside_unchecked(g, n) {
         let run = start.taps_unchecked(g, n);
         filter_lane_run_unchecked(samples, run, size, f);

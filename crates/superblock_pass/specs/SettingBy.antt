@@ -6,7 +6,7 @@ use Rattle.decided.specs.Decided.{Setting, setting, superblock_of}
 use Rattle.geometry.specs.declared.pass_numbers.PassNumbers.{PassNumbers}
 use Rattle.pass_edges.specs.PassEdges.{pass_of}
 use Rattle.positions.specs.Positions.{Placed}
-use Rattle.superblock_pass.specs.declared.setting.PassSetting.{PassSetting}
+use Rattle.pass.specs.declared.setting.PassSetting.{PassSetting}
 
 abbrev pub setting_by : PassSetting → (cells : List ℕ) → Setting
 setting_by t cells = setting t.s.of t.chroma t.sharpness.level t.depth.bits cells

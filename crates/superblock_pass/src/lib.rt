@@ -22,8 +22,9 @@ use base::fault::Fault;
 use faults::{list_faults_unchecked, number_faults};
 use geometry::pass_numbers::PassNumbers;
 use keys::keys_unchecked;
+use pass::setting::PassSetting;
 use sample::PassSample;
-use setting::{PassSetting, setting_of_unchecked};
+use setting::setting_of_unchecked;
 use window::WindowShape;
 use word_bytes::Words;
 

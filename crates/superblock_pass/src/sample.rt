@@ -5,9 +5,9 @@ ghost use Rattle.pass.specs.ByKeys.{FilteredBy};
 ghost use Rattle.window.specs.RangeLaws.{InRange};
 ghost use Rattle.window.specs.WindowLaws.{Lent};
 
-use crate::setting::PassSetting;
 use faults::sample::PlaneSample;
 use keys::Keys;
+use pass::setting::PassSetting;
 use window::WindowShape;
 
 // That the width admits the depth is a clause of contracts, as at PlaneSample.
@@ -20,12 +20,12 @@ pub trait PassSample: PlaneSample {
 
 impl PassSample for u16 {
     fn filter_keys_unchecked(samples: &mut [u16], g: WindowShape, t: PassSetting, keys: &Keys) {
-        pass::filter_keys_unchecked(samples, g, t.s, t.pass, t.sharpness, t.depth, keys);
+        pass::filter_keys_unchecked(samples, g, t, keys);
     }
 }
 
 impl PassSample for u8 {
     fn filter_keys_unchecked(samples: &mut [u8], g: WindowShape, t: PassSetting, keys: &Keys) {
-        byte_pass::filter_keys_unchecked(samples, g, t.s, t.pass, t.sharpness, keys);
+        byte_pass::filter_keys_unchecked(samples, g, t, keys);
     }
 }

@@ -1,5 +1,6 @@
 // Where a run starts: its positions, how many of them have all their taps in the window, and the places of these taps.
 ghost use Rattle.std.specs.Prelude.{true, ◌≡◌, ◌+◌, ◌≤◌, ◌<◌};
+ghost use Rattle.positions.specs.Positions.{plane_x, plane_y};
 ghost use Rattle.window.specs.InsideRun.{inside_run, first_tap, tap_step, along_step};
 ghost use Rattle.window.specs.Window.{along_x, along_y};
 ghost use Rattle.tap_places.specs.Near.{Near};
@@ -8,6 +9,7 @@ use crate::place::place_of;
 use crate::position::Position;
 use crate::tap_run::TapRun;
 use geometry::Pass;
+use positions::EdgePosition;
 use window::WindowShape;
 
 // The start of a run of positions along an edge: the first has its q0 at (x, y).
@@ -25,6 +27,20 @@ fn count_to(first: usize, end: usize) -> usize
     ensures { (result ≤ 16) × (0 < result → first + result ≤ end) }
 {
     end.saturating_sub(first).min(16)
+}
+
+impl From<EdgePosition> for RunStart {
+    ghost from_gives = { λ p start. (start.pass ≡ p.pass) × (start.x ≡ plane_x p.s.of p.pass p.edge p.i) × (start.y ≡ plane_y p.s.of p.pass p.edge p.i) };
+
+    fn from(p: EdgePosition) -> RunStart {
+        let x = p.plane_x();
+        let y = p.plane_y();
+        RunStart {
+            pass: p.pass,
+            x: x.0,
+            y: y.0,
+        }
+    }
 }
 
 impl RunStart {

@@ -11,7 +11,7 @@ filter_lane_run_unchecked-requires c =
     let inside = sym c.is_inside_unchecked.ensures ∙ c.if-is_inside_unchecked.true in
     let made = c.taps_unchecked-run.ensures in
     rw (made.0, made.1, made.2, made.3)
-    (inside_lanes a.g a.pass a.x.0 a.y.0 a.n a.samples.now p.0 inside p.3 p.4)
+    (inside_lanes a.g a.start.pass a.start.x a.start.y a.n a.samples.now p.0 inside p.1 p.2)
 
 pub returns-then-is_inside_unchecked : goal.returns-then-is_inside_unchecked
 returns-then-is_inside_unchecked c =
@@ -19,4 +19,4 @@ returns-then-is_inside_unchecked c =
     let inside = sym c.is_inside_unchecked.ensures ∙ c.if-is_inside_unchecked.true in
     let made = c.taps_unchecked-run.ensures in
     (rw (made.0, made.1, made.2, made.3) at c.filter_lane_run_unchecked.ensures)
-    ∙ run_plain a.g a.pass a.x.0 a.y.0 a.n (sample_filtering a.f.depth.bits a.size a.f.limit a.f.blimit a.f.thresh) a.samples.now inside
+    ∙ run_plain a.g a.start.pass a.start.x a.start.y a.n (sample_filtering a.f.depth.bits a.size a.f.limit a.f.blimit a.f.thresh) a.samples.now inside

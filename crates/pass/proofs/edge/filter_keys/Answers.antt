@@ -8,7 +8,7 @@ use Rattle.pass.proofs.edge.filter_keys.Goals as goal
 pub filter_run_unchecked-requires : goal.filter_run_unchecked-requires
 filter_run_unchecked-requires c =
     let loop = c.loop-small.invariant in
-    (loop.1, omega (arith, c.plane_x-x.ensures.1), omega (arith, c.plane_y-y.ensures.1), omega (arith, c.in-Some.small.small.count), range_wider _ _ 4096 _ (depth_12 _ c.args.depth.known) loop.2)
+    (loop.1, omega (arith, c.in-Some.small.small.count), range_wider _ _ 4096 _ (depth_12 _ c.args.t.depth.known) loop.2)
 
 pub loop-small-preserved : goal.loop-small-preserved
 loop-small-preserved c =
@@ -18,15 +18,15 @@ loop-small-preserved c =
     let steps = c.in-Some.ensures.steps in
     let f = c.new-f.ensures in
     let rest = runs_left c.next.new.self in
-    let filtered = filtered_on a.g a.s.of a.pass a.sharpness.level a.depth.bits run steps.1 _ _ _
-    c.plane_x-x.ensures.0 c.plane_y-y.ensures.0 c.strength-strength.ensures _ _ (rw (f.0, f.1, f.2, f.3) at c.filter_run_unchecked.ensures) in
-    let on = after_run a.s.of a.pass a.sharpness.level a.depth.bits run loop.invariant.1 loop.invariant.2 a.depth.known filtered in (
+    let filtered = filtered_on a.g a.t.s.of a.t.pass a.t.sharpness.level a.t.depth.bits run steps.1 _ _ _
+    c.from-start.ensures.1 c.from-start.ensures.2 c.strength-strength.ensures _ _ (rw (c.from-start.ensures.0, f.0, f.1, f.2, f.3) at c.filter_run_unchecked.ensures) in
+    let on = after_run a.t.s.of a.t.pass a.t.sharpness.level a.t.depth.bits run loop.invariant.1 loop.invariant.2 a.t.depth.known filtered in (
       c.in-Some.ensures.goes.keeps,
       on.0,
       on.1,
-      ap (runs_filtered a.g a.s.of a.pass a.sharpness.level a.depth.bits rest) filtered
-          ∙ runs_next a.g a.s.of a.pass a.sharpness.level a.depth.bits run rest loop.samples
-          ∙ ap (λ (l : List EdgeRun). runs_filtered a.g a.s.of a.pass a.sharpness.level a.depth.bits l loop.samples) (sym steps.0)
+      ap (runs_filtered a.g a.t.s.of a.t.pass a.t.sharpness.level a.t.depth.bits rest) filtered
+          ∙ runs_next a.g a.t.s.of a.t.pass a.t.sharpness.level a.t.depth.bits run rest loop.samples
+          ∙ ap (λ (l : List EdgeRun). runs_filtered a.g a.t.s.of a.t.pass a.t.sharpness.level a.t.depth.bits l loop.samples) (sym steps.0)
           ∙ loop.invariant.3,
     )
 
@@ -35,7 +35,7 @@ returns c =
     let a = c.args in
     let loop = c.loop-small in
     let all = ap runs_left c.into_iter-small-iterator.ensures.into_iter_gives ∙ c.new-small-items.ensures.1 in
-    runs_none a.g a.s.of a.pass a.sharpness.level a.depth.bits loop.samples
-    ∙ ap (λ (l : List EdgeRun). runs_filtered a.g a.s.of a.pass a.sharpness.level a.depth.bits l loop.samples) (sym c.in-None.ensures.steps.0.0)
+    runs_none a.g a.t.s.of a.t.pass a.t.sharpness.level a.t.depth.bits loop.samples
+    ∙ ap (λ (l : List EdgeRun). runs_filtered a.g a.t.s.of a.t.pass a.t.sharpness.level a.t.depth.bits l loop.samples) (sym c.in-None.ensures.steps.0.0)
     ∙ loop.invariant.3
-    ∙ ap (λ (l : List EdgeRun). runs_filtered a.g a.s.of a.pass a.sharpness.level a.depth.bits l a.samples.now) all
+    ∙ ap (λ (l : List EdgeRun). runs_filtered a.g a.t.s.of a.t.pass a.t.sharpness.level a.t.depth.bits l a.samples.now) all

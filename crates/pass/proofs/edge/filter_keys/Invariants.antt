@@ -8,6 +8,6 @@ use Rattle.pass.proofs.edge.filter_keys.Given as goal
 
 abbrev pub invariant-loop-small : goal.invariant-loop-small
 invariant-loop-small l =
-    Walking l.small-iterator.cells × Lent l.g (length l.samples) × InRange l.g (2 ^ l.depth.bits) l.samples
-    × (runs_filtered l.g l.s.of l.pass l.sharpness.level l.depth.bits (runs_left l.small-iterator) l.samples
-    ≡ runs_filtered l.g l.s.of l.pass l.sharpness.level l.depth.bits (runs_left l.initial.small-iterator) l.initial.samples)
+    Walking l.small-iterator.cells × Lent l.g (length l.samples) × InRange l.g (2 ^ l.t.depth.bits) l.samples
+    × (runs_filtered l.g l.t.s.of l.t.pass l.t.sharpness.level l.t.depth.bits (runs_left l.small-iterator) l.samples
+    ≡ runs_filtered l.g l.t.s.of l.t.pass l.t.sharpness.level l.t.depth.bits (runs_left l.initial.small-iterator) l.initial.samples)
