@@ -15,12 +15,7 @@ use setting::PassSetting;
 use window::WindowShape;
 
 // By the keys that cells tell, the pass over these cells.
-pub fn filter_keys_unchecked(
-    samples: &mut [u16],
-    g: WindowShape,
-    t: PassSetting,
-    keys: &Keys,
-)
+pub fn filter_keys_unchecked(samples: &mut [u16], g: WindowShape, t: PassSetting, keys: &Keys)
     requires { Lent g (length samples.old) × InRange g (2 ^ t.depth.bits) samples.old }
     ensures { FilteredBy g t.s.of t.pass t.sharpness.level t.depth.bits keys.now samples.old samples.new }
 {
