@@ -41,8 +41,8 @@ sample_standard B v = rw (c_standard B v)
 
 pub narrow_standard : (B : ℕ) (hev : Bool) (l : Std.Line) → narrow_filter B hev (taps_of l) ≡ taps_of (Std.narrow_filter B hev l)
 unfolding narrow_filter Std.narrow_filter
-narrow_standard B true l = simp (c_standard, sample_standard)
-narrow_standard B false l = simp (c_standard, sample_standard)
+narrow_standard B true l = simp (c_standard, sample_standard) refl
+narrow_standard B false l = simp (c_standard, sample_standard) refl
 
 -- ---- the choice
 

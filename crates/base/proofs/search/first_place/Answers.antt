@@ -1,4 +1,4 @@
-use Rattle.std.proofs.Common.{◌≡◌, sym, ◌∙◌, ◌-◌, arith}
+use Rattle.std.proofs.Common.{◌≡◌, refl, sym, ◌∙◌, ◌-◌, arith}
 use Rattle.base.specs.First.{first_here, first_next, first_end, first_is}
 use Rattle.base.proofs.search.first_place.Goals as goal
 
@@ -6,7 +6,7 @@ pub returns-then-test : goal.returns-then-test
 returns-then-test g c =
     let holds = sym (c.requires.1.1 c.loop-k.k _ (omega arith) c.test.ensures) ∙ c.if-test.true in
     let here = first_here g.holds c.loop-k.k c.args.n (omega arith) holds in
-    rw (sym c.any.ensures ∙ c.if-not-any.false, ← here, c.loop-k.invariant)
+    rw (sym c.any.ensures ∙ c.if-not-any.false, ← here, c.loop-k.invariant) refl
 
 pub loop-k-preserved : goal.loop-k-preserved
 loop-k-preserved g c =
