@@ -55,9 +55,9 @@ module _ (at step along n sharpness : ℕ) (keys : List ℕ) (all : Bool) (is : 
   same false e l k a b o =
       filtered.inner e l k (omega (arith, run.few)) (⊎_elim (λ p. inl (omega arith)) (λ p. inr (omega arith)) o)
 
-  pub chunk_run : (u : List ℕ) → Spread at step along n (8 - reach (beyond changed)) (2 * reach (beyond changed)) (λ l k. get_or t' (16 * k + l) 0) w u → u ≡ in_turn (plain_lines at step along lines) n w
-  chunk_run u stored =
-      each_lane_stored lines (reach all) (reach (beyond changed)) (within all refl) (reach_few all) at step along n local w t t' run loaded lanes (same (beyond changed) refl) u stored
+  pub chunk_run : (b : Bool) → beyond changed ≡ b → (u : List ℕ) → Spread at step along n (8 - reach b) (2 * reach b) (λ l k. get_or t' (16 * k + l) 0) w u → u ≡ in_turn (plain_lines at step along lines) n w
+  chunk_run b e u stored =
+      each_lane_stored lines (reach all) (reach b) (rw e at (within all refl)) (reach_few all) at step along n local w t t' run loaded lanes (same b e) u stored
 
   -- where no lane changes nothing need be stored
   pub chunk_kept : changed ≡ Nothing → w ≡ in_turn (plain_lines at step along lines) n w

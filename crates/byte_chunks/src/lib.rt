@@ -39,7 +39,8 @@ pub fn filter_chunk_unchecked(
     let all = any_large(&keys.of);
     let mut t = [0u8; 256];
     load_lanes_unchecked(&mut t, samples, run, all);
-    match filter_byte_lanes(&mut t, keys, sharpness) {
+    let changed = filter_byte_lanes(&mut t, keys, sharpness);
+    match changed {
         Changed::Nothing => {}
         Changed::Inner => store_lanes_unchecked(samples, run, &mut t, false),
         Changed::Outer => store_lanes_unchecked(samples, run, &mut t, true),

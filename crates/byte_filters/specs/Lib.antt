@@ -2,4 +2,3 @@ pub mod ByteBounds
 pub mod ByteArm
 pub mod ByteArmLaws
 pub mod TopLimit
-pub mod SaturatingLaws

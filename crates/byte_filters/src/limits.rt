@@ -27,7 +27,7 @@ fn top_of(sharpness: Sharpness) -> u8
     }
 }
 
-#[tactic(auto, using(crate::specs::TopLimit::limit_is, strength::specs::StrengthLaws::limit_small))]
+#[tactic(auto, unfolding(strength::specs::Strength::limit_of, base::specs::Notation::clip3), using(std::proofs::lemmas::Int::ints))]
 pub(crate) fn limit_of(level: Level, sharpness: Sharpness) -> u8
     ensures { (result ≡ limit_of level.number sharpness.level) × (result ≤ 63) }
 {

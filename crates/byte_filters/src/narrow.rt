@@ -7,7 +7,7 @@ ghost use Rattle.lane_filters.specs.RaisedFilter.{raised_base, raised_filter, ra
 use lane::{Four, Lane};
 
 // Step 2, raised by 128: the outer taps count where the variance is high.
-#[tactic(auto, unfolding(lane_filters::specs::RaisedFilter::raised_base), using(crate::specs::SaturatingLaws::moved))]
+#[tactic(auto, unfolding(lane_filters::specs::RaisedFilter::raised_base))]
 fn filter_base(p1: u8, q1: u8, hev: bool) -> u8
     ensures { result ≡ raised_base 1 hev p1 q1 }
 {
@@ -18,7 +18,7 @@ fn filter_base(p1: u8, q1: u8, hev: bool) -> u8
 }
 
 // Step 3, raised by 128.
-#[tactic(auto, unfolding(lane_filters::specs::RaisedFilter::raised_filter), using(crate::specs::SaturatingLaws::moved_thrice))]
+#[tactic(auto, unfolding(lane_filters::specs::RaisedFilter::raised_filter))]
 fn filter_value(base: u8, p0: u8, q0: u8) -> u8
     ensures { result ≡ raised_filter 1 base p0 q0 }
 {
@@ -52,7 +52,7 @@ fn rounded_half(filter: u8) -> u8
 
 // A sample with a value that is raised by k added, or taken away.
 
-#[tactic(auto, unfolding(lane_filters::specs::RaisedFilter::increased), using(crate::specs::SaturatingLaws::moved))]
+#[tactic(auto, unfolding(lane_filters::specs::RaisedFilter::increased))]
 fn increased(x: u8, value: u8, k: u8) -> u8
     ensures { result ≡ increased 1 x value k }
 {
@@ -60,7 +60,7 @@ fn increased(x: u8, value: u8, k: u8) -> u8
         .saturating_sub(k.saturating_sub(value))
 }
 
-#[tactic(auto, unfolding(lane_filters::specs::RaisedFilter::decreased), using(crate::specs::SaturatingLaws::moved))]
+#[tactic(auto, unfolding(lane_filters::specs::RaisedFilter::decreased))]
 fn decreased(x: u8, value: u8, k: u8) -> u8
     ensures { result ≡ decreased 1 x value k }
 {

@@ -17,12 +17,7 @@ use pass::setting::PassSetting;
 use window::WindowShape;
 
 // By the keys that cells tell, the pass over these cells.
-pub fn filter_keys_unchecked(
-    samples: &mut [u8],
-    g: WindowShape,
-    t: PassSetting,
-    keys: &Keys,
-)
+pub fn filter_keys_unchecked(samples: &mut [u8], g: WindowShape, t: PassSetting, keys: &Keys)
     requires { Lent g (length samples.old) }
     ensures { FilteredBy g t.s.of t.pass t.sharpness.level 8 keys.now samples.old samples.new }
 {
