@@ -1,8 +1,7 @@
 -- The runs that keys make are the runs of the pass (`key_runs_lem`).
 -- Assumes nothing.
 use Rattle.std.specs.Prelude.{◌≡◌, Bool, ℕ, zero, suc, ◌+◌, ◌*◌, ◌/◌, ◌%◌, ◌≤◌, ◌<◌, get_or, replicate}
-use Rattle.std.proofs.Common.{◌∙◌, get_or-take, zero-add, refl, sym, ap, true, false, cond, List, ◌∷◌, ◌++◌, arith, ltb-true, lt-ltb, eqb-true, ltb, eqb}
-use Rattle.std.proofs.lemmas.Bool.{eqb-false}
+use Rattle.std.proofs.Common.{◌∙◌, get_or-take, zero-add, refl, sym, ap, true, false, cond, List, ◌++◌, arith, lt-ltb, eqb}
 use Rattle.std.proofs.lemmas.List.{length-replicate}
 use Rattle.std.proofs.lemmas.Grind.{common_steps}
 use Rattle.base.specs.Filled.{filled, table, filled_at, take-filled}

@@ -1,7 +1,7 @@
 -- What the members of a grid are, and in which order they stand.
 -- Assumes nothing.
 use Rattle.std.specs.Prelude.{◌≡◌, ◌⊎◌, ℕ, zero, suc, ◌+◌, ◌*◌, ◌≤◌, ◌<◌, length}
-use Rattle.std.proofs.Common.{◌∙◌, inl, inr, suc-add, suc-mul, zero-add, zero-mul, arith, length-append, [], ◌++◌, append_assoc}
+use Rattle.std.proofs.Common.{◌∙◌, inl, inr, suc-add, suc-mul, zero-add, zero-mul, arith, length-append, ◌++◌, append_assoc}
 use mathlib.Core.List.Memᴰ
 use mathlib.Core.List.{Memᴰ}
 use Rattle.std.proofs.Math.Decide.{ℕ_discrete}
