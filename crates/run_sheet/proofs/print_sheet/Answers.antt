@@ -1,4 +1,6 @@
-use Rattle.std.proofs.Common.{rules, take, ◌≡◌, ◌∙◌, sym, arith, length-take-le}
+use Rattle.std.proofs.Common.{rules, List, ℕ, take, ◌≡◌, ◌∙◌, sym, subst, arith, length-take-le}
+use Rattle.std.specs.Prelude.{OnOk}
+use Rattle.std.specs.Io.KnownBytes.{Appends}
 use Rattle.sheet.specs.Sheet.{run_sheet}
 use Rattle.sheet.specs.SheetFits.{answer_fits}
 use Rattle.run_sheet.proofs.Written.{written, count_of, front_of}
@@ -19,5 +21,6 @@ returns g c =
     let count = count_of _ _ _ (omega arith) (sym c.in-Some.is ∙ c.run_sheet.ensures.0) in
     let same : take c.in-Some.count c.run_sheet.new.out ≡ run_sheet c.args.sheet.now =
     rw (count, c.run_sheet.ensures.1) (front_of _ _ (omega arith)) in
-    let bytes = rw same at c.write_all.ensures.bytes in
+    let appends = λ (bytes : List ℕ). OnOk c.write_all.result (Appends (g.W.Write.contents c.args.out.now) (g.W.Write.contents c.write_all.new.self) bytes) in
+    let bytes = subst appends same c.write_all.ensures.bytes in
     search rules

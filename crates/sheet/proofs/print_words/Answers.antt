@@ -1,6 +1,7 @@
-use Rattle.std.proofs.Common.{◌≡◌, List, ℕ, ◌*◌, ◌+◌, ◌-◌, ◌/◌, ◌≤◌, ◌∙◌, ap, arith, length, take, drop}
+use Rattle.std.proofs.Common.{◌≡◌, List, ℕ, ◌*◌, ◌+◌, ◌-◌, ◌/◌, ◌≤◌, ◌∙◌, ap, arith, length, subst, take, drop}
 use Rattle.sheet_header.specs.SheetHeaderLaws.{header_small}
-use Rattle.sheet.specs.Sheet.{cells_of}
+use Rattle.sheet.specs.Sheet.{cells_of, cells_runs, printed}
+use Rattle.text.specs.Puts.{Puts}
 use Rattle.word_bytes.specs.WordBytes.{words_at, words_of}
 use Rattle.word_bytes.specs.WordBytesLaws.{stretch-length, words_of_stretch}
 use Rattle.sheet.proofs.print_words.Goals as goal
@@ -28,4 +29,4 @@ returns c =
     let n = c.cell_count_unchecked-count in
     let room = lent bytes n.result (rw n.ensures c.requires.3) c.requires.5 in
     let cells : words_of (take (8 + 4 * n.result - 8) (drop 8 bytes)) ≡ cells_of bytes = words bytes n.result room ∙ ap (words_at bytes 8) (rw c.requires.1 at n.ensures) in
-    rw cells at c.print_cells.ensures
+    subst (λ l. Puts (printed c.args.h (cells_runs c.args.h l)) c.args.text.now c.print_cells.new.text) cells c.print_cells.ensures
