@@ -1,4 +1,5 @@
-// Which way a run goes. Its lines are then loaded and stored by rows of the window, or one by one.
+// Which way the lines of a run stand: across, as at a vertical edge, with their taps side by side, or down, themselves side by side. This
+// is chosen here, for words and for bytes.
 ghost use Rattle.std.specs.Prelude.{◌<◌};
 ghost use Rattle.lane_runs.specs.Stands.{Stands};
 
