@@ -49,6 +49,7 @@ impl PlaneSample for u8 {
         depth == 8
     }
 
+    #[tactic(auto, using(crate::specs::ByteFaults::bytes_good))]
     fn first_bad_unchecked(samples: &[u8], g: WindowShape, depth: Depth) -> Option<usize> {
         None
     }
