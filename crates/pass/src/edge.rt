@@ -17,6 +17,7 @@ use tap_places::run_start::RunStart;
 use window::WindowShape;
 
 // The work by the keys of the pass.
+#[tactic(auto, using(window::specs::RangeLaws::range_wider, crate::specs::WorkLaws::depth_12))]
 pub(crate) fn filter_keys(samples: &mut [u16], g: WindowShape, t: PassSetting, keys: &Keys)
     requires { Lent g (length samples.old) × InRange g (2 ^ t.depth.bits) samples.old }
     ensures { samples.new ≡ runs_filtered g t.s.of t.pass t.sharpness.level t.depth.bits (key_runs t.s.of t.pass keys.now.outer keys.now.inner) samples.old }

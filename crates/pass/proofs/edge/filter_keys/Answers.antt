@@ -1,14 +1,8 @@
-use Rattle.std.proofs.Common.{arith, ap, sym, ◌∙◌, List}
+use Rattle.std.proofs.Common.{ap, sym, ◌∙◌, List}
 use Rattle.decided.specs.RunsLeft.{runs_left}
 use Rattle.decided.specs.declared.EdgeRun.{EdgeRun}
-use Rattle.window.specs.RangeLaws.{range_wider}
-use Rattle.pass.specs.WorkLaws.{after_run, depth_12, filtered_on, runs_filtered, runs_next, runs_none}
+use Rattle.pass.specs.WorkLaws.{after_run, filtered_on, runs_filtered, runs_next, runs_none}
 use Rattle.pass.proofs.edge.filter_keys.Goals as goal
-
-pub filter_run_unchecked-requires : goal.filter_run_unchecked-requires
-filter_run_unchecked-requires c =
-    let loop = c.loop-small.invariant in
-    (loop.1, omega (arith, c.in-Some.small.small.count), range_wider _ _ 4096 _ (depth_12 _ c.args.t.depth.known) loop.2)
 
 pub loop-small-preserved : goal.loop-small-preserved
 loop-small-preserved c =
