@@ -2,7 +2,7 @@
 -- Assumes nothing.
 use Rattle.std.specs.Prelude.{◌≡◌, refl, Bool, true, false, List, ℕ, ◌+◌, ◌-◌, ◌*◌, ◌/◌, ◌%◌, ◌≤◌, ◌<◌, length, get_or, slice_range, not, eqb, ◌||◌, Option, Some, None}
 use Rattle.std.proofs.lemmas.Bool.{not-false}
-use Rattle.std.proofs.Common.{sym, drop, length-take-le, length-drop, ap, ◌∙◌, arith, eqb-true}
+use Rattle.std.proofs.Common.{sym, drop, length-take-le, length-drop, ◌∙◌, arith, eqb-true}
 use Rattle.std.specs.List.{fold}
 use Rattle.std.proofs.lemmas.List.{get_or-take, get_or-drop}
 use Rattle.base.specs.First.{found, found-false}

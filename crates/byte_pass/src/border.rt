@@ -14,7 +14,7 @@ use tap_places::position::Position;
 use tap_places::run_start::RunStart;
 
 // Level 0 filters nothing.
-#[tactic(auto, unfolding(base::specs::Depth::supported))]
+#[tactic(auto, unfolding(base::specs::Depth::supported), using(pass::specs::ChunkLaws::keyed_off))]
 fn filter_keyed(samples: &mut [u8], w: &ByteWork, p: Position, key: Key)
     requires { Lent w.now.g (length samples.old) }
     ensures { samples.new ≡ applied (key_stencil w.now.g p.pass p.x p.y w.now.sharpness.level 8 key.number) samples.old }
@@ -28,6 +28,7 @@ fn filter_keyed(samples: &mut [u8], w: &ByteWork, p: Position, key: Key)
 }
 
 // The positions of a chunk from a first one on; the chunk's own first is where it starts.
+#[tactic(auto, using(window::specs::StencilLaws::in_turn_none))]
 pub(crate) fn filter_border(
     samples: &mut [u8],
     w: &ByteWork,

@@ -63,6 +63,7 @@ fn filter_at(samples: &mut [u8], w: &ByteWork, start: RunStart, keys: &LaneKeys)
     filter_border(samples, w, start, keys, n);
 }
 
+#[tactic(auto, using(pass::specs::ChunkLaws::chunk_idle))]
 pub(crate) fn filter_chunk(samples: &mut [u8], w: &ByteWork, keys: &Keys, c: Chunk)
     requires { Lent w.now.g (length samples.old) }
     ensures { samples.new ≡ chunk w.now.g c.s.of c.pass w.now.sharpness.level 8 keys.now.outer keys.now.inner c.edge (16 * c.m) 16 samples.old }

@@ -26,6 +26,7 @@ fn spread(cells: &[u8], len: usize) -> [u8; 16]
 }
 
 // The same, or None if none of the cells filters. They are looked at, before their keys are spread.
+#[tactic(auto, using(crate::specs::ChunkKeysLaws::none_filters))]
 fn keys_of_cells(cells: &[u8], len: usize) -> Option<LaneKeys>
     requires { CellKeys len cells.now }
     ensures { KeysIfAny (λ k. get_or cells.now (k / len) 0) result }

@@ -1,12 +1,8 @@
 use Rattle.std.proofs.Common.{◌≡◌, ◌+◌, ◌-◌, ◌∙◌, arith, drop, get_or, slice_range}
 use Rattle.std.proofs.lemmas.List.{get_or-take, get_or-drop}
 use Rattle.tap_places.specs.TurnLaws.{in_turn_next}
-use Rattle.window.specs.StencilLaws.{in_turn_none}
 use Rattle.byte_pass.proofs.border.filter_border.Goals as goal
 use Rattle.byte_pass.proofs.border.filter_border.Invariants.{family}
-
-pub loop-j-init : goal.loop-j-init
-loop-j-init c = in_turn_none _ _
 
 pub loop-j-preserved : goal.loop-j-preserved
 loop-j-preserved c =
