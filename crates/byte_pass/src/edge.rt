@@ -34,12 +34,7 @@ fn filter_edge(
 
 // The work by the keys of the pass.
 #[tactic(auto, using(pass::specs::ChunkLaws::pass_chunks_none))]
-pub(crate) fn filter_keys(
-    samples: &mut [u8],
-    g: WindowShape,
-    t: PassSetting,
-    keys: &Keys,
-)
+pub(crate) fn filter_keys(samples: &mut [u8], g: WindowShape, t: PassSetting, keys: &Keys)
     requires { Lent g (length samples.old) }
     ensures { samples.new ≡ pass_chunks g t.s.of t.pass t.sharpness.level 8 keys.now.outer keys.now.inner (edge_count t.s.of t.pass) samples.old }
 {
