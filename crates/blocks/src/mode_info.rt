@@ -24,6 +24,7 @@ pub fn sb_size(sub: bool, mi_size: u8) -> u8
     }
 }
 
+// Of any number, as references arrive.
 #[tactic(auto, unfolding(crate::specs::ModeInfo::is_intra))]
 pub fn is_intra(ref_frame: i32) -> bool
     ensures { result ≡ is_intra ref_frame }

@@ -34,7 +34,8 @@ impl From<Fault> for Refusal {
     }
 }
 
-// An answer as it crosses the border.
+// An answer as it crosses the border. A function beside From<Fault>: what an answer holds does not cross by it, which a From of the answer
+// would hide.
 pub fn refusal_of<A: Copy>(answer: Result<A, Fault>) -> Refusal
     ensures { numbers_of result ≡ crossing (returned_of answer) }
 {

@@ -1,6 +1,7 @@
 // The level table over lists.
 // The crate springspade exports its functions to C, and says what their arguments are. C has no Option, so a list of flags
-// stands beside each list of numbers that may be absent.
+// stands beside each list of numbers that may be absent. Its refusals are made where they are found: a function that answers a Result for
+// them would have all ten arguments again.
 #![tactic(auto)]
 
 ghost use Rattle.std.specs.Prelude.{◌≡◌, ◌≤◌, ◌<◌, length};

@@ -47,7 +47,8 @@ fn too_large(c: CellRecord) -> bool
         | (63 < c.level)
 }
 
-// Takes any record: one with a field that is too large gives a word that document 01's test 11 refuses.
+// Of any record, by name and by no From, since not every number is the word of a cell. One with a field that is too large gives a word
+// that document 01's test 11 refuses.
 #[tactic(auto, unfolding(crate::specs::CellRecord::word_of))]
 pub fn word_of(c: CellRecord) -> u32
     ensures { result ≡ word_of c }

@@ -1,4 +1,5 @@
-// The transforms of chroma blocks, from the Rust's residual.rs.
+// The transforms of chroma blocks, from the Rust's residual.rs. A subsampling is two flags here, as in a superblock and in the standard's
+// list: no function takes one as a whole.
 #![tactic(auto)]
 
 ghost use Rattle.std.specs.Prelude.{◌≡◌, ◌≤◌, MatchOption};

@@ -1,4 +1,4 @@
-// Runs whose numbers are small, made of cells and joined.
+// Runs whose numbers are small, made of cells and joined. The definitions speak of runs of any numbers.
 ghost use Rattle.std.specs.Prelude.{◌≡◌, ◌+◌, ◌≤◌, ◌<◌};
 ghost use Rattle.decided.specs.KeyRuns.{key_run};
 ghost use Rattle.decided.specs.Runs.{joins, longer};

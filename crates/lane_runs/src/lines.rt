@@ -10,7 +10,8 @@ use crate::rows::Rows;
 use lanes::filter_lanes_unchecked;
 use line::line_strength::LineStrength;
 
-// Lines whose taps, or which themselves, stand side by side.
+// Lines whose taps, or which themselves, stand side by side. That they are in the list, and share no sample, is a clause here and in
+// what calls it: the list is lent anew to each call.
 pub(crate) trait Lines: Copy {
     // The place of the first line's p7, how far taps are apart, and lines, and how many lines there are.
     ghost at: { Self → ℕ };
@@ -33,8 +34,8 @@ pub(crate) trait Lines: Copy {
         ensures { Spread (at self) (step self) (along self) (n self) taps.lo taps.m (λ l k. get_or t.now (16 * k + l) 0) samples.old samples.new };
 }
 
-// The taps that a size reads, as many on each side of the edge, and those that it can change. A size is the standard's number: 8.8.2
-// computes with it, keys pack it, and every number above 1 filters as 2 does.
+// The taps that a size reads, as many on each side of the edge, and those that it can change. A size is the standard's number: 8.8.3
+// computes it, keys pack it, and every number above 1 filters as 2 does.
 
 fn read_taps(size: u8) -> Rows
     ensures { (result.lo ≡ 8 - reads size) × (result.m ≡ 2 * reads size) }

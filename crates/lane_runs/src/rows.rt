@@ -1,4 +1,5 @@
-// Rows of samples that are copied from one list to another.
+// Rows of samples that are copied from one list to another. That both lists hold them is a clause of each function: it is of the lists,
+// which a struct of their places could not lend.
 ghost use Rattle.std.specs.Prelude.{◌≡◌, ◌+◌, ◌≤◌, length};
 ghost use Rattle.lane_runs.specs.RowCopies.{row_copied, rows_copied, RowsLent};
 

@@ -59,7 +59,7 @@ impl TestedFrame {
         }
     }
 
-    // Step 4 for one entry of a segment whose level is lvl.
+    // Step 4 for one entry of a segment whose level is lvl. Reference and mode are the table's places, and no enum.
     #[tactic(auto, unfolding(crate::specs::Levels::intra_lvl, crate::specs::Levels::inter_lvl))]
     fn delta_level(self, lvl: u8, reference: usize, mode: usize) -> u8
         requires { (reference < 4) × (mode < 2) }

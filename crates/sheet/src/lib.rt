@@ -30,7 +30,8 @@ use sheet_header::{SheetHeader, bad_header, header_of_unchecked};
 use sheet_lines::{print_first_unchecked, print_refusal_unchecked};
 use text::Text;
 
-// A refusal is the whole text.
+// A refusal is the whole text, printed where it is found: of a Result that is passed up each function would have to say besides that
+// nothing is printed yet.
 #[tactic(auto, using(crate::specs::SheetLaws::number_small))]
 fn print_fault(text: &mut Text<'_>, fault: Fault)
     requires { (text.old.at ≡ 0) × (place_of fault < 10000) }

@@ -7,7 +7,7 @@ ghost use Rattle.sheet_header.specs.SheetHeader.{depth_of, header_of, bad_header
 use geometry::pass_numbers::PassNumbers;
 
 // MiCols and MiRows, subsampling, sharpness, depth (0 where the code is none), plane, pass, row base and column in cells, and
-// the spare bits.
+// the spare bits. Fields of its own and no PassNumbers within, since the definitions name the header's bits by them.
 #[derive(Clone, Copy)]
 pub struct SheetHeader {
     pub cols: usize,

@@ -91,7 +91,7 @@ fn are_records(record: &[u8; 492], records: &[CellRecord; ENTRIES]) -> bool {
         .all(|(made, word)| word_of(*made) == *word / 4096 * 4096)
 }
 
-// As is_equal, with cell records in place of words.
+// As is_equal, with cell records in place of words, which are compared in another way.
 pub(crate) fn is_equal_in_records(record: &[u8; 492]) -> bool {
     let references = references_of(record);
     let mut records = u32s_at(record, 300).map(record_of);

@@ -40,7 +40,7 @@ pub fn bad_window(g: WindowShape, lent: usize) -> bool
             | (lent < (g.height - 1) * g.stride + g.width)
 }
 
-// The first sample of a row that is not below the bound, if one is.
+// The first sample of a row that is not below the bound, if one is. The line filter's search is over an array of 16.
 fn first_in_row(samples: &[u16], start: usize, width: usize, bound: u16) -> Option<usize>
     requires { start + width ≤ length samples.now }
     ensures { result ≡ first_found (reaches bound samples.now start) width }
