@@ -1,8 +1,9 @@
-// Numbers of a record, the lowest byte first, and answers as it has them.
-ghost use Rattle.std.specs.Prelude.{◌+◌, ◌*◌, ◌≤◌};
+// Numbers of a record, the lowest byte first, and answers as it has them. One function for each type: from_le_bytes is of no trait, and
+// each takes an array of its own length. Rows of numbers are read where they are asked for: a function over their count would need it in
+// its closure's clause, which names no const parameter.
+ghost use Rattle.std.specs.Prelude.{◌+◌, ◌≤◌};
 
 use base::fault::Fault;
-use std::array;
 
 pub(crate) fn u16_at<const N: usize>(record: &[u8; N], at: usize) -> u16
     requires { at + 2 ≤ N }
@@ -26,20 +27,6 @@ pub(crate) fn i32_at<const N: usize>(record: &[u8; N], at: usize) -> i32
     requires { at + 4 ≤ N }
 {
     u32_at(record, at).cast_signed()
-}
-
-// M numbers, side by side.
-
-pub(crate) fn u16s_at<const N: usize, const M: usize>(record: &[u8; N], at: usize) -> [u16; M]
-    requires { at + 2 * M ≤ N }
-{
-    array::from_fn(|k| u16_at(record, at + 2 * k))
-}
-
-pub(crate) fn u32s_at<const N: usize, const M: usize>(record: &[u8; N], at: usize) -> [u32; M]
-    requires { at + 4 * M ≤ N }
-{
-    array::from_fn(|k| u32_at(record, at + 4 * k))
 }
 
 // Those that a call takes as a size.

@@ -1,12 +1,13 @@
 // A record of a pass, laid out as tests/differential/src/vectors.rs says.
 ghost use Rattle.std.specs.Prelude.{◌≤◌};
 
-use crate::numbers::{is_answer, size16_at, size32_at, u16s_at, u32s_at};
+use crate::numbers::{is_answer, size16_at, size32_at, u16_at, u32_at};
 use base::fault::Fault;
 use cell_records::{CellRecord, record_of};
 use geometry::pass_numbers::PassNumbers;
 use plane_window::pass_window;
 use record_pass::pass_records;
+use std::array;
 use superblock_pass::superblock_loop_filter_cells;
 use window::WindowShape;
 
@@ -16,7 +17,7 @@ const CELLS: usize = 32;
 const SAMPLES: usize = 640;
 
 fn cells_of(record: &[u8; 2728]) -> [u32; CELLS] {
-    u32s_at(record, 40)
+    array::from_fn(|k| u32_at(record, 40 + 4 * k))
 }
 
 // At most the room, also in a record that says more.
@@ -29,7 +30,7 @@ fn lent_cells(record: &[u8; 2728]) -> usize
 fn samples_at(record: &[u8; 2728], start: usize) -> [u16; SAMPLES]
     requires { start ≤ 1448 }
 {
-    u16s_at(record, start)
+    array::from_fn(|k| u16_at(record, start + 2 * k))
 }
 
 // The same in a record of a pass over bytes.

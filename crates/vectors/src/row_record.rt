@@ -1,7 +1,7 @@
 // A record of a row, laid out as tests/differential/src/vectors.rs says.
 ghost use Rattle.std.specs.Prelude.{◌≤◌, ◌<◌, ◌+◌};
 
-use crate::numbers::{i32_at, is_answer, size16_at, u32s_at};
+use crate::numbers::{i32_at, is_answer, size16_at, u32_at};
 use cell_records::{CellRecord, record_of, word_of};
 use record_row::row_records;
 use row::mode_info::ModeInfoLists;
@@ -65,11 +65,17 @@ fn numbers_of(record: &[u8; 492]) -> RowNumbers {
     }
 }
 
+fn words_at(record: &[u8; 492], start: usize) -> [u32; ENTRIES]
+    requires { start + 96 ≤ 492 }
+{
+    array::from_fn(|k| u32_at(record, start + 4 * k))
+}
+
 // A refusal leaves the words, and so does an accepted row those behind its cells: all are compared.
 pub(crate) fn is_equal(record: &[u8; 492]) -> bool {
     let references = references_of(record);
     let p = numbers_of(record);
-    let mut cells: [u32; ENTRIES] = u32s_at(record, 300);
+    let mut cells = words_at(record, 300);
     let lent = length_at(record, 16);
     let answer = row_cells(
         lists_of(record, &references),
@@ -79,12 +85,12 @@ pub(crate) fn is_equal(record: &[u8; 492]) -> bool {
     );
     are_lengths(record)
         & is_answer(answer, record[17], usize::from(record[18]))
-        & (cells == u32s_at(record, 396))
+        & (cells == words_at(record, 396))
 }
 
 // A word before may have zero bits set, which no record holds: they are not compared. The row sets none.
 fn are_records(record: &[u8; 492], records: &[CellRecord; ENTRIES]) -> bool {
-    let after: [u32; ENTRIES] = u32s_at(record, 396);
+    let after = words_at(record, 396);
     records
         .iter()
         .zip(&after)
@@ -94,7 +100,7 @@ fn are_records(record: &[u8; 492], records: &[CellRecord; ENTRIES]) -> bool {
 // As is_equal, with cell records in place of words, which are compared in another way.
 pub(crate) fn is_equal_in_records(record: &[u8; 492]) -> bool {
     let references = references_of(record);
-    let mut records = u32s_at(record, 300).map(record_of);
+    let mut records = words_at(record, 300).map(record_of);
     let lent = length_at(record, 16);
     let answer = row_records(
         lists_of(record, &references),
