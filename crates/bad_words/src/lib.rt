@@ -8,7 +8,8 @@ ghost use Rattle.bad_words.specs.BadWord.{bad_word, bad_cell};
 
 use word_bytes::Words;
 
-// Document 01's test 11 of a word: a zero bit is set, or a level is not 0 while absent.
+// Document 01's test 11 of a word: a zero bit is set, or a level is not 0 while absent. By its bits: LfCell::from drops the zero bits,
+// and makes bytes where the fold over words counts in 32 bits.
 #[tactic(auto, unfolding(crate::specs::BadWord::bad_word, cells::specs::Cell::cell_of))]
 pub fn bad_word(word: u32) -> bool
     ensures { result ≡ bad_word word }
@@ -16,8 +17,8 @@ pub fn bad_word(word: u32) -> bool
     (word % 4096 != 0) | (word / 262144 % 2 != 1) & (word / 4096 % 64 != 0)
 }
 
-// Whether one of the first words of a list is bad. The fold has no branch, which vectorises. Here and below over the places: a Words
-// lends its count and its words, and is no iterator.
+// Whether one of the first words of a list is bad, by a fold, which has no branch and vectorises. Here and below over places, which
+// are the list's by a clause: a Words lends its count and its words, and is no iterator.
 fn any_bad_word<C: Words>(cells: C, count: usize) -> bool
     requires { count ≤ length (C.words cells) }
     ensures { result ≡ fold (λ any k. any || bad_cell (C.words cells) k) false (range_with_len 0 count) }

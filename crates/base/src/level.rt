@@ -4,7 +4,8 @@ ghost use Rattle.base.specs.Fault.{number_of, place_of};
 
 use crate::fault::Fault;
 
-// 0 to 63: a value of this type is in range. Levels, sharpnesses and depths have a type each, so that none is taken for another.
+// 0 to 63: a value of this type is in range. Levels, sharpnesses and block sizes have a type each: one type over
+// a bound would need the fault of each bound besides.
 #[derive(Clone, Copy)]
 pub struct Level {
     pub number: u8,

@@ -4,7 +4,7 @@ ghost use Rattle.base.specs.Fault.{number_of, place_of};
 
 use crate::fault::Fault;
 
-// 0 to 7: a value of this type is in range.
+// 0 to 7: a value of this type is in range. A type of its own, as Level is.
 #[derive(Clone, Copy)]
 pub struct Sharpness {
     pub level: u8,

@@ -4,7 +4,8 @@ ghost use Rattle.base.specs.Fault.{number_of, place_of};
 
 use base::fault::Fault;
 
-// BLOCK_4X4, 0, to BLOCK_64X64, 12: a number, since it is a place in the standard's lists.
+// BLOCK_4X4, 0, to BLOCK_64X64, 12: a number, since it is a place in the standard's lists, and a type of its own, as Level
+// is.
 #[derive(Clone, Copy)]
 pub struct BlockSize {
     pub number: u8,

@@ -44,8 +44,8 @@ pub fn lane_arm(a: Lane<u8>, key: Key, sharpness: Sharpness) -> Arm
     if on { some } else { Arm::None }
 }
 
-// A lane of each arm. Another lane stays as it is. One function for each arm, since each answers the part of the lane that its filter
-// can change.
+// The filter of each arm: a lane of another arm stays as it is. One function for each arm, since each answers the part of the lane that
+// its filter can change.
 
 // Any byte will do as the key, since its level alone is read.
 pub fn byte_four(a: Lane<u8>, key: u8, arm: Arm) -> Four<u8>

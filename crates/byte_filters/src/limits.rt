@@ -1,5 +1,5 @@
 // The limits of a level (8.8.4), computed: document 01 wants them in one table, which strength has, but a loop over lanes that
-// read it at a place for each lane would make no vectors. So is what follows of the limit.
+// read it at a place for each lane would make no vectors. What follows from the limit is computed too.
 ghost use Rattle.std.specs.Prelude.{◌≡◌, ◌+◌, ◌*◌, ◌≤◌, ◌<◌};
 ghost use Rattle.strength.specs.Strength.{shift, limit_of};
 ghost use Rattle.byte_filters.specs.TopLimit.{top_limit};

@@ -14,9 +14,12 @@ use down::{load_down, store_down};
 use lane_runs::direction::Direction;
 use tap_places::tap_run::TapRun;
 
+// That a run's lines are in the list is a clause of each, since the list is lent anew; that it has a position too, since a TapRun may
+// have none.
+//
 // All taps are loaded, and stored, where all is set, else p3 to q3. What words and bytes share is the way of a run, `Direction`, and
-// `copy_rows_unchecked`: words across go to their lanes one by one, where bytes are turned, and a table of words is promised to be zero
-// where none is loaded, since lanes of words ask for samples of 12 bits.
+// `copy_rows_unchecked`. The rest differs: words across go to their lanes one by one, where bytes are turned; and a table of words is
+// zero where none is loaded, since lanes of words ask for samples of 12 bits.
 
 pub fn load_lanes_unchecked(t: &mut [u8; 256], samples: &[u8], run: TapRun, all: bool)
     requires { SpacedRun run.at run.step run.along run.n samples.now × (0 < run.n) }

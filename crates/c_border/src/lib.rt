@@ -1,5 +1,6 @@
 // What crosses the border after a call. C has no Result, so what a call answers crosses as two numbers: which refusal, or 0 where the call
-// was accepted, and at which place. The crate springspade says why its functions and those of the crates c_* have plain arguments.
+// was accepted, and at which place. The crate springspade says why its functions and those of the crates c_* have such arguments
+// as C lends.
 #![tactic(auto)]
 
 ghost use Rattle.std.specs.Prelude.{◌≡◌};
@@ -34,8 +35,7 @@ impl From<Fault> for Refusal {
     }
 }
 
-// An answer as it crosses the border. A function beside From<Fault>: what an answer holds does not cross by it, which a From of the answer
-// would hide.
+// An answer as it crosses the border. A function and no From of the answer, which would hide that what an answer holds does not cross.
 pub fn refusal_of<A: Copy>(answer: Result<A, Fault>) -> Refusal
     ensures { numbers_of result ≡ crossing (returned_of answer) }
 {

@@ -1,5 +1,5 @@
 // The pass over a window record.
-// The crate springspade exports its functions to C, and says what their arguments are: plain numbers and lists, as C lends them.
+// The crate springspade exports its functions to C, and says what their arguments are: numbers, lists and records, as C lends them.
 #![tactic(auto)]
 
 ghost use Rattle.base.specs.Outcome.{Answers};

@@ -11,7 +11,7 @@ use record_pass::pass_records;
 use window::WindowShape;
 
 // As springspade_pass, over cell records in place of words, with the numbers behind the window in a record.
-// Plain parameters, those of the C function that calls it.
+// The parameters are those of the C function that calls it.
 #[tactic(auto, using(c_border::specs::BorderLaws::crossed_as, pass::specs::PassLaws::pass_place))]
 pub fn springspade_pass_records(
     samples: &mut [u16],

@@ -11,7 +11,7 @@ use row::mode_info::ModeInfoLists;
 use row::numbers::RowNumbers;
 
 // As springspade_row, into cell records in place of words, with the numbers in a record.
-// Plain parameters, those of the C function that calls it.
+// The parameters are those of the C function that calls it.
 pub fn springspade_row_records(
     mi_sizes: &[u8],
     tx_sizes: &[u8],

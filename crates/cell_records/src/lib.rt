@@ -47,8 +47,8 @@ fn too_large(c: CellRecord) -> bool
         | (63 < c.level)
 }
 
-// Of any record, by name and by no From, since not every number is the word of a cell. One with a field that is too large gives a word
-// that document 01's test 11 refuses.
+// Of any record, by name: a From for u32 would not say that the number is a cell's word. One with a field that is too large gives a
+// word that document 01's test 11 refuses.
 #[tactic(auto, unfolding(crate::specs::CellRecord::word_of))]
 pub fn word_of(c: CellRecord) -> u32
     ensures { result ≡ word_of c }
@@ -88,7 +88,7 @@ impl From<LfCell> for CellRecord {
     }
 }
 
-// The record of any word; what stands in its zero bits is left out.
+// The record of any word, by name as well; what stands in its zero bits is left out.
 pub fn record_of(word: u32) -> CellRecord
     ensures { result ≡ record_of word }
 {

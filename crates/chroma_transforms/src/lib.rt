@@ -1,5 +1,5 @@
-// The transforms of chroma blocks, from the Rust's residual.rs. A subsampling is two flags here, as in a superblock and in the standard's
-// list: no function takes one as a whole.
+// The transforms of chroma blocks, from the Rust's residual.rs. A subsampling is two flags here, as in a superblock: a struct of both
+// would be taken apart at its one use, where each flag is an index.
 #![tactic(auto)]
 
 ghost use Rattle.std.specs.Prelude.{◌≡◌, ◌≤◌, MatchOption};

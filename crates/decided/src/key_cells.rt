@@ -45,7 +45,7 @@ impl<'a> Iterator for KeyCells<'a> {
 
     ghost remaining = { item_count cells_left };
 
-    // Level 0 filters nothing.
+    // Level 0 filters nothing. By while let: what is left of the walk stays in the field, for the next call.
     #[inline(always)]
     #[tactic(auto, unfolding(crate::specs::KeyRuns::key_run), using(pass_edges::specs::PassEdgesLaws::edge_count_small, crate::specs::CellsLeft::cells_end, crate::specs::CellsLeft::cells_off, crate::specs::CellsLeft::cells_on))]
     fn next(&mut self) -> Option<SmallRun> {

@@ -35,7 +35,7 @@ pub struct EdgeRun {
     pub edge: usize,
     pub first: usize,
     pub count: usize,
-    // The standard's numbers, which 8.8.3 computes.
+    // Size and level apart and no Key, as definitions and run sheet have them. The size is the standard's number, which 8.8.3 computes.
     pub size: u8,
     pub level: u8,
 }

@@ -44,7 +44,7 @@ impl<'a> Iterator for PassRuns<'a> {
 
     ghost remaining = { item_count runs_left };
 
-    // Nothing is pending before the first cell and behind the last.
+    // Nothing is pending before the first cell and behind the last. By while let: what is left of the walk stays in the field.
     #[inline(always)]
     #[tactic(auto, using(crate::specs::JoinLaws::joins_true, crate::specs::RunsLeft::runs_start, crate::specs::RunsLeft::runs_join, crate::specs::RunsLeft::runs_close, crate::specs::RunsLeft::runs_last, crate::specs::RunsLeft::runs_none))]
     fn next(&mut self) -> Option<SmallRun> {

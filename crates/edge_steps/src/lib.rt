@@ -1,4 +1,5 @@
-// The single steps at a position, a file for each file of the Rust.
+// The single steps at a position, a file for each file of the Rust. Superblock, pass, x and y are parameters of their own, as the
+// standard names them, and no EdgePosition, which would work out x and y anew in each step.
 #![tactic(auto)]
 
 pub mod filter_size;

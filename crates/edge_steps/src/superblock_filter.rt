@@ -5,8 +5,8 @@ ghost use Rattle.edge_steps.specs.SuperblockFilter.{multiple, loop_cell, last_co
 use geometry::{Luma, Pass, shl_unchecked, shr};
 use positions::PlacedSuperblock;
 
-// A cell's column or row, on the subsampling grid. The bound is a clause here and below: document 01 has Luma as a tuple struct of a
-// number alone.
+// A cell's column or row, on the subsampling grid. The bound is a clause here and below: document 01 wants a tuple struct, and such a
+// struct holds no fact.
 #[tactic(auto, unfolding(crate::specs::SuperblockFilter::loop_cell))]
 pub fn loop_cell_unchecked(at: Luma, sub: bool) -> usize
     requires { at.0 < 65792 }

@@ -21,6 +21,8 @@ use sample::PlaneSample;
 use window::{WindowShape, bad_window};
 use word_bytes::Words;
 
+// Tests and no values of types, which `setting_of_unchecked` makes once all is tested.
+//
 // Refusals 1 to 10, of a row with so many cells lent. Whether the depth is known is the matter of the samples' width.
 #[tactic(auto, using(geometry::specs::FrameLaws::sized, geometry::specs::FrameLaws::started))]
 pub fn number_faults(n: PassNumbers, known: bool, lent: usize) -> Result<(), Fault>

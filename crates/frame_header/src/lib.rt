@@ -16,7 +16,7 @@ pub struct LoopFilterParams {
 }
 
 // segmentation_params( ) of 6.2.11. The features are flat, since C lends them so, at segment times 4 plus feature: FeatureData, or None
-// where FeatureEnabled is 0.
+// where FeatureEnabled is 0. Whether they are enabled stands beside them, as the header codes it.
 #[derive(Clone, Copy, Debug, PartialEq, Eq)]
 pub struct SegmentationParams {
     pub enabled: bool,

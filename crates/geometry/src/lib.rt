@@ -43,7 +43,7 @@ pub fn shl_unchecked(n: usize, sub: bool) -> usize
     n << u32::from(sub)
 }
 
-// Both coordinates are tuples of any number, as document 01 names them, so a bound such as x.0 < 65792 stays a clause.
+// Both coordinates are tuple structs, as document 01 wants, which hold no fact: a bound such as x.0 < 65792 is a clause.
 
 // A coordinate in luma samples, which the edge tests take.
 #[derive(Clone, Copy)]
@@ -91,6 +91,5 @@ pub fn cell_count_unchecked(row: usize, cols: usize, rows: usize) -> usize
     requires { (row ≤ rows) × (cols ≤ 8192) }
     ensures { result ≡ cells_from row cols rows }
 {
-    let left = rows - row;
-    if left < 8 { left * cols } else { 8 * cols }
+    (rows - row).min(8) * cols
 }

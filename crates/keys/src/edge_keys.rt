@@ -14,6 +14,7 @@ pub struct Keys {
     pub ghost keyed: { Keyed outer inner },
 }
 
+// Edges and cells are a grid's numbers, below 16 and below 8 by a clause of each: nothing holds them but loops' counters.
 impl Keys {
     // The keys of the 8 cells along an edge. The outer edges have the even numbers.
     #[tactic(auto, unfolding(crate::specs::Keyed::keys_along))]

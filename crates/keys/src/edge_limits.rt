@@ -66,6 +66,9 @@ pub(crate) fn limits_of(t: SmallTurned, edge: usize) -> EdgeLimits
     }
 }
 
+// By the word's bits and not by LfCell::from, which makes bytes of nine fields: the loop over cells counts in 32 bits, and the
+// pass says which logarithm and which transform it reads.
+//
 // What cell c of an edge decides, whose word is w, with log the block's logarithm and tx the transform.
 #[tactic(auto, unfolding(crate::specs::PlainKeys::plain, crate::specs::Keys::key_of), using(cells::specs::CellLaws::flag_bit, cells::specs::CellLaws::bit_small))]
 pub(crate) fn entry_of(w: u32, log: u32, tx: u32, c: u32, n: EdgeLimits) -> Entry

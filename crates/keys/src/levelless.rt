@@ -9,6 +9,8 @@ use crate::turned::{SmallTurned, pair_count};
 use base::search::first_place;
 use geometry::shr;
 
+// Words and pass are two parameters here and above: the words are lent, and the pass is a value that each function has as its own.
+//
 // Whether cell k decides without level, 8 cells to an edge. The two edges of a pair read the same words.
 #[tactic(auto, unfolding(crate::specs::PlainKeys::lack_at))]
 fn lacks(words: &[u32; 64], t: SmallTurned, k: usize) -> bool

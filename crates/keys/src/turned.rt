@@ -26,7 +26,7 @@ pub(crate) struct Turned {
     pub tx: u32,
 }
 
-// Such numbers, with how large they are.
+// Such numbers, with how large they are. Two types, since the definitions make a Turned of any superblock.
 #[derive(Clone, Copy)]
 pub(crate) struct SmallTurned {
     pub of: Turned,

@@ -1,6 +1,7 @@
 // The narrow filter (8.8.5.4) on numbers without a sign: each value is raised by half its range, so that 16 bits are enough
 // and a subtraction that stops at 0 clips from below. Bytes have a narrow filter of their own: a byte ends where their range
-// does, so that they need no cap and stay in 8 bits.
+// does, so that they need no cap and stay in 8 bits. Each step says how large its number is, since the next one adds to it: a type of
+// each bound would be unpacked at each sum.
 ghost use Rattle.std.specs.Prelude.{◌≡◌, ◌-◌, ◌*◌, ◌≤◌, ◌<◌, min};
 ghost use Rattle.line.specs.NarrowFilter.{narrow_filter};
 ghost use Rattle.lane.specs.LaneSamples.{samples_of, four_of, put_taps};

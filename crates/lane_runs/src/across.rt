@@ -24,7 +24,7 @@ fn store_lane(samples: &mut [u16], at: usize, t: &[u16; 256], l: usize, taps: Ro
     requires { (l < 16) × (at + 15 < length samples.old) }
     ensures { samples.new ≡ scatter (λ k. true) (λ k. at + (taps.lo + k)) (λ k. get_or t.now (16 * (taps.lo + k) + l) 0) taps.m samples.old }
 {
-    // By iter_mut the loop is no shorter, and leaves to show what the part that it went through makes of the whole list.
+    // By iter_mut the loop is no shorter, and it is left to show what the changed part makes of the whole list.
     for k in 0..taps.m {
         samples[at + (taps.lo + k)] = t[16 * (taps.lo + k) + l];
     }

@@ -84,13 +84,13 @@ pub put-length : {T : Type 0} (t : List T) (l k : ℕ) (vs : List T) → length 
 put-length t l k [] = refl
 put-length t l k (v ∷ vs) = put-length (set t (16 * k + l) v) l (k + 1) vs ∙ length-set t (16 * k + l) v
 
-put-own : (t : List ℕ) (l k : ℕ) (vs : List ℕ) → length t ≡ 256 → l < 16 → k + length vs ≤ 16 → lane_of (put_lane t l k vs) l ≡ put_taps (lane_of t l) k vs
+pub put-own : (t : List ℕ) (l k : ℕ) (vs : List ℕ) → length t ≡ 256 → l < 16 → k + length vs ≤ 16 → lane_of (put_lane t l k vs) l ≡ put_taps (lane_of t l) k vs
 put-own t l k [] n h g = refl
 put-own t l k (v ∷ vs) n h g =
     put-own (set t (16 * k + l) v) l (k + 1) vs (length-set t (16 * k + l) v ∙ n) h (omega arith)
     ∙ ap (λ (x : List ℕ). put_taps x (k + 1) vs) (own t l k v n h (omega arith))
 
-put_other : (t : List ℕ) (l k : ℕ) (vs : List ℕ) (m : ℕ) → l < 16 → m < 16 → m ≢ l → lane_of (put_lane t l k vs) m ≡ lane_of t m
+pub put_other : (t : List ℕ) (l k : ℕ) (vs : List ℕ) (m : ℕ) → l < 16 → m < 16 → m ≢ l → lane_of (put_lane t l k vs) m ≡ lane_of t m
 put_other t l k [] m h g d = refl
 put_other t l k (v ∷ vs) m h g d = put_other (set t (16 * k + l) v) l (k + 1) vs m h g d ∙ other t l k v m h g d
 
@@ -113,7 +113,7 @@ lane_step f t u m k vs n h g e inv =
         (λ (x : m ≤ l). let y : l ≡ m = omega arith in rw y last)
         (split l m)
 
-lane_more : {f : ℕ → List ℕ → List ℕ} {m : ℕ} {t u v line : List ℕ} (k : ℕ) (vs : List ℕ) → m < 16 → k + length vs ≤ 16 → length u ≡ 256 → EachLaneTo m f t u → line ≡ lane_of u m → put_taps line k vs ≡ f m line → v ≡ put_lane u m k vs → (length v ≡ 256) × EachLaneTo (m + 1) f t v
+pub lane_more : {f : ℕ → List ℕ → List ℕ} {m : ℕ} {t u v line : List ℕ} (k : ℕ) (vs : List ℕ) → m < 16 → k + length vs ≤ 16 → length u ≡ 256 → EachLaneTo m f t u → line ≡ lane_of u m → put_taps line k vs ≡ f m line → v ≡ put_lane u m k vs → (length v ≡ 256) × EachLaneTo (m + 1) f t v
 lane_more {f} {m} {t} {u} {v} k vs h g n inv is e d =
     (ap length d ∙ put-length u m k vs ∙ n, rw d (lane_step f t u m k vs n h g (ap (λ (x : List ℕ). put_taps x k vs) (sym is) ∙ e ∙ ap (f m) is) inv))
 
@@ -155,7 +155,7 @@ module _ {T : Type 0} (value : T → ℕ) where
       at : (i : ℕ) (d : T) → i < 256 → value (get_or t i d) ≡ tap (map value t) i
       at i d b = sym (get_or-map value t i d 0 (omega arith))
 
-  put_values : (t : List T) (l k : ℕ) (vs : List T) → map value (put_lane t l k vs) ≡ put_lane (map value t) l k (map value vs)
+  pub put_values : (t : List T) (l k : ℕ) (vs : List T) → map value (put_lane t l k vs) ≡ put_lane (map value t) l k (map value vs)
   put_values t l k [] = refl
   put_values t l k (v ∷ vs) = put_values (set t (16 * k + l) v) l (k + 1) vs ∙ ap (λ (u : List ℕ). put_lane u l (k + 1) (map value vs)) (map-set value t (16 * k + l) v)
 

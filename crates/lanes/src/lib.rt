@@ -21,7 +21,7 @@ fn whole(n: usize) -> usize
 }
 
 // Whether the filter mask is on in one of the first m lanes that is below n. Idle lanes would pass it. By number, since no slice
-// of the table holds a lane; a loop, whose invariant says of which lanes it is off, where a fold would want a law that says so.
+// of the table holds a lane. A loop and no fold: its invariant says which lanes are off, and of a fold a law would have to say it.
 fn any_mask(t: &[u16; 256], m: usize, n: u16, f: LineStrength) -> bool
     requires { Table t.now × (m ≤ 16) }
     ensures { result ≡ false → NoneTo m n f.depth.bits f.limit f.blimit t.now }

@@ -7,6 +7,7 @@ ghost use Rattle.lanes.specs.Lanes.{lane_in, lane_of, put_lane, EachLane, Follow
 use lane::{Four, Lane, Six};
 use line::masks::Sample;
 
+// That l is below 16 is a clause here and below: a lane's number is the counter of a loop, and a type of it would be made at each turn.
 pub fn lane_at_unchecked<T: Copy>(t: &[T; 256], l: usize) -> Lane<T>
     requires { l < 16 }
     ensures { result ≡ lane_in t.now l result }

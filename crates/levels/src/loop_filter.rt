@@ -115,6 +115,7 @@ impl TestedFrame {
 }
 
 // The level table for deltas that are resolved. A frame level above 63 is refused.
+// By a test and no Level: the header's record goes on as it is, with its level in it.
 #[tactic(auto, unfolding(crate::specs::Levels::frame_init))]
 pub fn loop_filter_frame_init(
     lf: LoopFilterParams,

@@ -4,7 +4,8 @@ ghost use Rattle.std.specs.Prelude.{◌≡◌};
 use base::depth::Depth;
 use strength::FilterStrength;
 
-// The limits of 8.8.4, and the depth, to whose scale the line filter raises them.
+// The limits of 8.8.4, and the depth, to whose scale the line filter raises them. The size is beside it and no field: in lanes it is a
+// constant or a function's name. No FilterStrength within, which has a level: a line's caller lends limits without one.
 #[derive(Clone, Copy)]
 pub struct LineStrength {
     pub depth: Depth,

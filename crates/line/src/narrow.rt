@@ -1,5 +1,5 @@
 // The narrow filter (8.8.5.4), in the steps of the standard. It takes any samples: the one of lanes, which needs no sign, asks for
-// 12 bits.
+// 12 bits. Each step says how large its number is, since the next one adds to it: a type of each bound would be unpacked at each sum.
 ghost use Rattle.std.specs.Prelude.{◌≡◌, cond, ◌<◌, pos, ◌+ℤ◌, ◌-ℤ◌, ◌*ℤ◌};
 ghost use Rattle.std.specs.Int.Signed.{mag};
 ghost use Rattle.base.specs.Notation.{asr_z, round2_z};

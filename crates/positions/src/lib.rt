@@ -6,7 +6,8 @@ ghost use Rattle.positions.specs.Positions.{Placed, luma_x, luma_y, plane_x, pla
 
 use geometry::{Luma, Pass, Plane, Superblock, shl_unchecked};
 
-// A superblock of a plane that lies in its frame: a value of this type has numbers that are tested.
+// A superblock of a plane that lies in its frame: a value of this type has numbers that are tested. Two types, since the definitions
+// speak of a Superblock of any numbers.
 #[derive(Clone, Copy)]
 pub struct PlacedSuperblock {
     pub of: Superblock,
@@ -26,7 +27,7 @@ pub struct EdgePosition {
 
 impl EdgePosition {
     // In luma samples. x and y are the standard's two names: one function over an axis would choose between them again, and be no plainer.
-    // The bound is a clause and no field, since document 01 has Luma as a tuple struct of a number alone.
+    // The bound is a clause: document 01 wants Luma as a tuple struct, and such a struct holds no fact.
 
     #[tactic(auto, unfolding(crate::specs::Positions::luma_x))]
     pub fn luma_x(self) -> Luma

@@ -25,7 +25,8 @@ fn store_records_unchecked(words: &[u32], records: &mut [CellRecord])
     }
 }
 
-// Takes any lists and any numbers. A refusal leaves every record as it was.
+// Takes any lists and any numbers. A refusal leaves every record as it was. The words are a local of fixed size: there is no heap, and a
+// row has at most 65,536 cells.
 pub fn row_records(
     lists: ModeInfoLists,
     levels: &[u8; 64],

@@ -48,8 +48,8 @@ fn row_cells_unchecked(
     }
 }
 
-// Takes any lists and any numbers. A refusal leaves every word as it was. Tests 1 to 5 are those of a pass too, each a call: one function
-// of all would tell what passed in one fact, which each caller would have to take apart.
+// Takes any lists and any numbers. A refusal leaves every word as it was. Tests 1 to 5 are those of a pass too: one function of all
+// would tell what passed in one fact, which each caller would take apart again.
 #[tactic(auto, unfolding(crate::specs::Row::row, crate::specs::Row::too_short), using(base::specs::First::place_found, base::specs::First::no_place, geometry::specs::FrameLaws::sized, geometry::specs::FrameLaws::started, crate::specs::RowLaws::long))]
 pub fn row_cells(
     lists: ModeInfoLists,

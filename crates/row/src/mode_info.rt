@@ -59,7 +59,7 @@ impl<'a> ModeInfoLists<'a> {
     }
 }
 
-// The first of count cells with a bad size, transform or skip: of the three lists of these, as its definition takes them.
+// The first of count cells with a bad size, transform or skip: it takes the three lists that are tested, as its definition does.
 pub(crate) fn first_bad_block(
     mi_sizes: &[u8],
     tx_sizes: &[u8],

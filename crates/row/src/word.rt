@@ -48,7 +48,7 @@ impl<'a> WordTables<'a> {
         tx_size.min(self.limits[usize::from(size.number)])
     }
 
-    // What the pass reads of a cell whose size was tested. By a clause here and below: any size is lent, and all are tested first.
+    // What the pass reads of a cell. That its size was tested is a clause here and below: any size is lent, and all are tested before.
     #[tactic(auto, unfolding(crate::specs::Row::cell_from, blocks::specs::ModeInfo::sb_size), using(blocks::specs::BlockSizesLaws::by_size_lem))]
     fn cell_unchecked(&self, mi: CellMi) -> LfCell
         requires { mi.mi_size ≤ 12 }

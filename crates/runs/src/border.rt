@@ -10,8 +10,8 @@ use line::line_strength::LineStrength;
 use tap_places::run_start::RunStart;
 use window::WindowShape;
 
-// Positions are numbers: no list is walked. Bytes have a loop of their own, since there each position has a key: one function that a
-// closure tells what filters a position had more clauses than the two loops have lines.
+// Positions are numbers: no list is walked. Bytes have a loop of their own, since there each position has a key: one function that takes
+// a closure for each position's filter had more clauses than the two loops have lines.
 #[tactic(auto, using(window::specs::StencilLaws::in_turn_none))]
 pub(crate) fn filter_border(
     samples: &mut [u16],

@@ -16,9 +16,8 @@ use line::line_strength::LineStrength;
 use tap_places::run_start::RunStart;
 use window::WindowShape;
 
-// n positions along an edge by one filter size and strength. Inside the window they are filtered in
-// lanes, which ask for samples of 12 bits. The work without tests, for a caller that has made them. The size is the standard's number,
-// which 8.8.3 computes and keys pack.
+// n positions along an edge by one filter size and strength. Inside the window they are filtered in lanes, which ask for samples of 12
+// bits. The work without tests, for a caller that has made them. The size is the standard's number, which 8.8.3 computes and keys pack.
 pub fn filter_run_unchecked(
     samples: &mut [u16],
     g: WindowShape,

@@ -30,8 +30,8 @@ use sheet_header::{SheetHeader, bad_header, header_of_unchecked};
 use sheet_lines::{print_first_unchecked, print_refusal_unchecked};
 use text::Text;
 
-// A refusal is the whole text, printed where it is found: of a Result that is passed up each function would have to say besides that
-// nothing is printed yet.
+// A refusal is the whole text, printed where it is found: with a Result each function would promise besides that a refusal leaves
+// the text empty. That it is empty at first is a clause here and below, since printing fills it.
 #[tactic(auto, using(crate::specs::SheetLaws::number_small))]
 fn print_fault(text: &mut Text<'_>, fault: Fault)
     requires { (text.old.at ≡ 0) × (place_of fault < 10000) }
@@ -89,6 +89,8 @@ fn print_sheet(text: &mut Text<'_>, sheet: &[u8])
     }
 }
 
+// A count and no part of the buffer: C takes it so, and what stands in the whole buffer is promised.
+//
 // Takes any bytes. Returns how many bytes of text stand at the front of the buffer; a buffer of fewer than 2,048 bytes is left as it
 // is.
 #[tactic(auto, unfolding(crate::specs::SheetAnswers::answer_of, crate::specs::SheetAnswers::text_of))]

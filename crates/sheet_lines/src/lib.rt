@@ -1,4 +1,5 @@
-// The lines of a run sheet.
+// The lines of a run sheet. Not by Display: what write! promises of its bytes holds where it answers Ok, and nothing promises that it
+// does.
 #![tactic(auto)]
 
 ghost use Rattle.std.specs.Prelude.{◌∷◌, [], ◌++◌, ◌+◌, ◌≤◌, ◌<◌, length};
@@ -53,7 +54,7 @@ pub fn print_run_unchecked(text: &mut Text<'_>, a: SmallRun)
     put_number(text, usize::from(a.level), b'\n');
 }
 
-// Not by the Display of Fault: what write! promises of its bytes holds where it answers Ok, and nothing promises that it does.
+// Of a refusal: its number and its place.
 pub fn print_refusal_unchecked(text: &mut Text<'_>, number: usize, place: usize)
     requires { (text.old.at ≤ 32768) × (number < 100) × (place < 10000) }
     ensures { Puts (refusal_line number place) text.old text.new }

@@ -9,6 +9,7 @@ use pass::setting::PassSetting;
 use pass_edges::pass_of;
 use positions::PlacedSuperblock;
 
+// By name and no TryFrom: whether numbers are refused depends besides on the samples' width and on how many cells are lent.
 pub fn setting_of_unchecked(n: PassNumbers) -> PassSetting
     requires { Tested n }
     ensures { SettingOf n result }

@@ -32,10 +32,13 @@ fn is_among(lo: usize, n: usize, u: usize) -> bool
     requires { lo + n ≤ 65544 }
     ensures { result ≡ among lo n u }
 {
-    (lo <= u) & (u < lo + n)
+    (lo..lo + n).contains(&u)
 }
 
 impl Position {
+    // That k is below 16 is a clause of each: a tap's number is the counter of a loop over 16, and a type of it would be made at each
+    // turn.
+
     // The coordinates of a tap, raised by 8. Two methods, as the standard has an x and a y: the pass says which of them a tap moves
     // along, so told what moves, one method would be both.
 

@@ -7,6 +7,8 @@ ghost use Rattle.text.specs.Text.{decimal};
 use itoa::Buffer;
 
 // A buffer, and the place behind what was written. Bytes past the buffer's end are dropped, so a caller tests once that there is room.
+// No String, since there is no heap, and no io::Write of a slice, which answers an error where room lacks. How far `at` may be is a clause
+// of each, since each moves it.
 #[derive(Drop)]
 pub struct Text<'a> {
     pub out: &'a mut [u8],

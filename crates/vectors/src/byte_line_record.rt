@@ -1,4 +1,5 @@
-// A record of a line over bytes, laid out as tests/differential/src/vectors.rs says.
+// A record of a line over bytes, laid out as tests/differential/src/vectors.rs says. Beside the record of words: here
+// the record's own bytes are lent.
 use crate::numbers::is_answer;
 use byte_line::sample_filtering_bytes;
 

@@ -1,4 +1,5 @@
-// A record of a pass over bytes, laid out as tests/differential/src/vectors.rs says.
+// A record of a pass over bytes, laid out as tests/differential/src/vectors.rs says. Beside the record of words: here
+// the record's own bytes are lent.
 use crate::numbers::{is_answer, size32_at};
 use crate::pass_record::{numbers_of, window_of};
 use base::fault::Fault;

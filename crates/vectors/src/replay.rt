@@ -26,7 +26,7 @@ impl fmt::Display for Tally {
     }
 }
 
-// What a file is a list of.
+// What a file is a list of. A trait and no const parameter: the borrow checker's part of a proof covers no bound Fn that names one.
 pub(crate) trait Record: Copy {
     fn zeros() -> Self;
 

@@ -9,10 +9,9 @@ ghost use Rattle.window.specs.WindowLaws.{Lent, uncountable};
 use base::search::first_place;
 
 // Rows of a plane's samples in a list that a caller lends: height rows of width samples, stride apart, the first of them at the
-// plane's row top, which document 01 calls y origin. Samples and shape are no one struct: each function that writes samples would
-// then have to promise that it keeps the shape. A type of tested shapes would leave the samples' number to be asked: `Lent` asks for
-// both at once, and `Lendable`, where no samples are taken, for a shape that fits some list.
-#[repr(C)]
+// plane's row top, which document 01 calls y origin. Samples and shape go as two parameters below PlaneWindow: each function that
+// writes samples would else have to promise that it keeps the shape. A type of tested shapes would leave the samples' number to be
+// asked: `Lent` asks for both at once, and `Lendable`, where no samples are taken, for a shape that fits some list.
 #[derive(Clone, Copy)]
 pub struct WindowShape {
     pub width: usize,
@@ -53,7 +52,7 @@ pub fn first_bad_sample_unchecked(samples: &[u16], g: WindowShape, bound: u16) -
     requires { Lent g (length samples.now) }
     ensures { result ≡ first_found (bad_sample g bound samples.now) (g.height * g.width) }
 {
-    // By find_map the proof does not close at what it returns: it tells a chain of calls, and no law makes the first place of it.
+    // By find_map the proof does not close: its law tells a chain of calls, and no law makes the first place of that.
     for row in 0..g.height {
         if let Some(k) = first_in_row(samples, row * g.stride, g.width, bound) {
             return Some(row * g.width + k);
