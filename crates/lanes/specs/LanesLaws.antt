@@ -2,7 +2,6 @@
 -- Assumes nothing.
 use Rattle.std.specs.Prelude.{◌≡◌, refl, ◌≢◌, Bool, true, false, ◌&&◌, List, [], ◌∷◌, ℕ, zero, suc, ◌+◌, ◌*◌, ◌<◌, ◌≤◌, ltb, length, get_or, map, set}
 use Rattle.std.proofs.Common.{sym, ap, ◌∙◌, ⊎_elim, arith, length-set, get_or-set_same, get_or-set_other, ext_get_or, lt-ltb}
-use Rattle.std.proofs.lemmas.Grind.{get_or_default_zero}
 use Rattle.std.proofs.lemmas.List.{get_or-map, map-id, map-set, length-map}
 use Rattle.base.specs.Depth.{scaled}
 use Rattle.base.specs.NotationLaws.{split}
@@ -13,7 +12,7 @@ use Rattle.line.specs.Masks.{filter_mask}
 use Rattle.line.specs.SampleFiltering.{sample_filtering}
 use Rattle.line.specs.SampleFilteringLaws.{filters_none}
 use Rattle.wide_filter.specs.Taps.{tap}
-use Rattle.lanes.specs.Lanes.{lane_at, lane_in, lane_of, put_lane, Table, EachLane, EachLaneTo, Lanes, NoneTo}
+use Rattle.lanes.specs.Lanes.{lane_in, lane_of, put_lane, Table, EachLane, EachLaneTo, Lanes, NoneTo}
 
 pub lane_length : (t : List ℕ) (l : ℕ) → length (lane_of t l) ≡ 16
 unfolding lane_of

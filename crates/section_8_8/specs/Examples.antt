@@ -1,6 +1,6 @@
 -- The page, computed: Table M and case S of document 01.
 -- Assumes nothing.
-use Rattle.std.specs.Prelude.{◌≡◌, refl, Bool, true, false, cond, List, [], ◌∷◌, ◌++◌, ℕ, zero, suc, ◌+◌, eqb, ltb, pos, neg_ℤ}
+use Rattle.std.specs.Prelude.{◌≡◌, refl, Bool, true, false, cond, List, [], ◌∷◌, ◌++◌, ℕ, zero, suc, eqb, ltb, pos, neg_ℤ}
 use Rattle.base.specs.Notation.{clip3}
 use Rattle.section_8_8.specs.LoopFilterProcess.{Header, Frame, Plane, for_to, lvl_seg, lvl_lookup, x, y, loop_col, loop_row, mi_size, tx_sz, ss_size, uv_tx_size, sb_size, is_intra, mode_type, is_block_edge, is_tx_edge, is32_edge, on_screen, apply_filter, filter_size, lvl, limit_of, blimit_of, thresh_of, Line, hev_mask, filter_mask, flat_mask, flat_mask2, c, sample, narrow_filter, sum_to, smoothed, wide_filter, sample_filtering, line_at, stored, filtered_at, superblock_pass, loop_filter_frame}
 

@@ -1,6 +1,6 @@
 -- No tap that a filter size reads lies outside of the frame: so the page is never asked for a sample that a plane does not have.
 -- Assumes nothing.
-use Rattle.std.specs.Prelude.{◌≡◌, refl, Bool, true, false, cond, not, ◌&&◌, ◌||◌, ◌⊎◌, ℕ, zero, suc, ◌+◌, ◌-◌, ◌*◌, ◌/◌, ◌%◌, ◌≤◌, ◌<◌, min, T, eqb, leb, ltb}
+use Rattle.std.specs.Prelude.{◌≡◌, refl, Bool, true, false, cond, not, ◌&&◌, ◌||◌, ℕ, zero, suc, ◌+◌, ◌-◌, ◌*◌, ◌/◌, ◌%◌, ◌≤◌, ◌<◌, min, T, eqb, leb, ltb}
 use Rattle.std.proofs.Common.{sym, subst, ⊎_elim, arith, eqb-true, leb-false, ltb-false, eq-eqb}
 use Rattle.std.proofs.lemmas.Bool.{eqb-false, not-true, not-false}
 use Rattle.base.specs.First.{found, found-false}

@@ -1,7 +1,7 @@
 -- What the words of an accepted row decide of a position is what 8.8.2's steps 1 to 16 make of the frame: whether it is filtered
 -- (`decided_standard`), with which size and which level (`size_standard`, `level_standard`).
 -- Assumes nothing.
-use Rattle.std.specs.Prelude.{◌≡◌, Bool, not, ◌||◌, List, ℕ, zero, suc, ◌-◌, ◌^◌, ◌≤◌, ◌<◌, eqb, ltb, ℤ, pos, negsuc, nat_abs, get_or}
+use Rattle.std.specs.Prelude.{◌≡◌, Bool, not, ◌||◌, List, ℕ, zero, suc, ◌^◌, ◌≤◌, ◌<◌, eqb, ltb, ℤ, pos, negsuc, nat_abs, get_or}
 use Rattle.std.proofs.Math.Path.{refl, sym, ap}
 use Rattle.std.proofs.Common.{◌∙◌, subst, lt-ltb, ne_eqb, arith}
 use Rattle.std.proofs.Math.Bool.{true, false, cond}
@@ -13,7 +13,6 @@ use Rattle.cells.specs.Cell.{cell_of, width_log2, height_log2, tx_of, Fields}
 use Rattle.cells.specs.CellLaws.{cell_fields}
 use Rattle.cells.specs.declared.LfCell.{LfCell}
 use Rattle.decisions.specs.Decision.{Decision, cell_index, decision_by, decision}
-use Rattle.edge_steps.specs.FilterSize.{filter_size}
 use Rattle.edge_steps.specs.ScreenLaws.{seen, cell_below, loop_cell_small, loop_cell_from}
 use Rattle.edge_steps.specs.StepsStandard.{loop_col_standard, loop_row_standard, block_edge_standard, tx_edge_standard, edge_32_standard, on_screen_standard, apply_standard, filter_size_standard}
 use Rattle.edge_steps.specs.SuperblockFilter.{loop_cell, on_screen, apply_filter}

@@ -8,7 +8,6 @@ use Rattle.base.specs.Notation.{◌>>◌}
 use Rattle.decided.specs.Decided.{Position, position, Setting, decision_at, decided}
 use Rattle.geometry.specs.declared.Pass.{Pass}
 use Rattle.order.specs.Grid.{grid, select}
-use Rattle.pass_edges.specs.PassEdges.{edge_len}
 use Rattle.plane_steps.specs.PlaneSteps.{Shows}
 use Rattle.section_8_8.specs.LoopFilterProcess as Std
 use Rattle.section_8_8.specs.TapsInPlane.{plane_width, plane_height}

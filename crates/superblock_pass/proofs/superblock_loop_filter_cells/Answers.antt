@@ -2,7 +2,7 @@ use Rattle.std.proofs.Common.{◌≡◌, refl, Bool, List, [], ℕ, length}
 use Rattle.std.proofs.lemmas.Result.{err_from_is_err_and}
 use Rattle.base.specs.Fault.{number_of, place_of}
 use Rattle.base.specs.Outcome.{Outcome, accepted, refused}
-use Rattle.base.specs.Width.{Width, admits, admits-supported}
+use Rattle.base.specs.Width.{admits, admits-supported}
 use Rattle.faults.specs.Faults.{numbers_refused}
 use Rattle.faults.specs.FaultsLaws.{Numbers, numbers_passed}
 use Rattle.geometry.specs.declared.pass_numbers.PassNumbers.{PassNumbers}
