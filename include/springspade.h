@@ -73,7 +73,7 @@ typedef struct SpringspadeEdge {
     uint8_t filter_size;
 } SpringspadeEdge;
 
-/* What the pass reads of a cell. A flag and a level and no Option, since C reads the record as it stands. */
+/* What the pass reads of a cell. */
 typedef struct SpringspadeLfCell {
     /* Logarithm of the block's width in units of 8 luma samples, for a plane that is not subsampled across: 0 to 3. */
     uint8_t width0;
@@ -95,7 +95,7 @@ typedef struct SpringspadeLfCell {
     uint8_t level;
 } SpringspadeLfCell;
 
-/* The frame's, the superblock's, and which plane and pass. Plain numbers, laid out for C: any are taken, and a pass tests them. */
+/* The frame's, the superblock's, and which plane and pass. */
 typedef struct SpringspadePassNumbers {
     /* 0 to 7. */
     uint8_t sharpness;

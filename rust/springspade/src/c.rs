@@ -60,7 +60,7 @@ pub struct Edge {
     pub filter_size: u8,
 }
 
-/// What the pass reads of a cell. A flag and a level and no Option, since C reads the record as it stands.
+/// What the pass reads of a cell.
 #[repr(C)]
 #[derive(Debug, Clone, Copy, PartialEq, Eq, Default)]
 pub struct LfCell {
@@ -84,7 +84,7 @@ pub struct LfCell {
     pub level: u8,
 }
 
-/// The frame's, the superblock's, and which plane and pass. Plain numbers, laid out for C: any are taken, and a pass tests them.
+/// The frame's, the superblock's, and which plane and pass.
 #[repr(C)]
 #[derive(Debug, Clone, Copy, PartialEq, Eq, Default)]
 pub struct PassNumbers {
