@@ -20,10 +20,10 @@ FourteenBytes r =
     × (r.q0 < 256) × (r.q1 < 256) × (r.q2 < 256) × (r.q3 < 256) × (r.q4 < 256) × (r.q5 < 256) × (r.q6 < 256)
 
 -- a line of bytes is one of 12 bits
-pub bytes_small : {t : List ℕ} → AtMost 255 t → Within 4096 t
-bytes_small f = record { below = λ k h. omega (arith, f.most k) }
+pub bytes_small : {t : List ℕ} → Within 256 t → Within 4096 t
+bytes_small w = record { below = λ k h. omega (arith, w.below k h) }
 
-bytes_within : {t : List ℕ} → AtMost 255 t → Within 256 t
+pub bytes_within : {t : List ℕ} → AtMost 255 t → Within 256 t
 bytes_within f = record { below = λ k h. omega (arith, f.most k) }
 
 -- what the filter makes of bytes

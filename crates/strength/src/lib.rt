@@ -42,7 +42,7 @@ pub fn mode_to_mode_type(mode: u8) -> usize
 // The limits of all levels at all sharpnesses.
 #[derive(Clone, Copy)]
 pub struct LimitTable {
-    limits: [u8; 512],
+    pub limits: [u8; 512],
     pub ghost ruled: { Limits limits },
 }
 
