@@ -63,7 +63,7 @@ fn segmentation_params(
     SegmentationParams {
         enabled,
         abs_or_delta_update,
-        features: array::from_fn(|k| if flags[k] { Some(numbers[k]) } else { None }),
+        features: array::from_fn(|k| flags[k].then_some(numbers[k])),
     }
 }
 

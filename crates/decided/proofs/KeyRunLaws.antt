@@ -1,6 +1,6 @@
--- The runs that keys make are the runs of the pass (`key_runs_lem`).
+-- The runs that keys make are the runs of the pass (`key_runs_lem`), and keys are small (`keys_small`).
 -- Assumes nothing.
-use Rattle.std.specs.Prelude.{◌≡◌, Bool, ℕ, zero, suc, ◌+◌, ◌*◌, ◌/◌, ◌%◌, ◌≤◌, ◌<◌, get_or, replicate}
+use Rattle.std.specs.Prelude.{◌≡◌, Bool, ℕ, zero, suc, ◌+◌, ◌*◌, ◌/◌, ◌%◌, ◌≤◌, ◌<◌, ltb, get_or, replicate}
 use Rattle.std.proofs.Common.{◌∙◌, get_or-take, zero-add, refl, sym, ap, true, false, cond, List, ◌++◌, arith, lt-ltb, eqb}
 use Rattle.std.proofs.lemmas.List.{length-replicate}
 use Rattle.std.proofs.lemmas.Grind.{common_steps}
@@ -16,7 +16,7 @@ use Rattle.pass_edges.specs.PassEdges.{along_sub, cell_start, edge_count}
 use Rattle.pass_edges.specs.PassEdgesLaws.{edge_count_small, edge_len_small, cell_first}
 use Rattle.decided.specs.Runs.{level_of, cell_run, joined, run_filters, runs}
 use Rattle.decided.specs.KeyRuns.{key_run, key_cell, key_runs}
-use Rattle.keys.specs.Keyed.{key_for}
+use Rattle.keys.specs.Keyed.{Keyed, key_for}
 use Rattle.decided.proofs.KeptLaws.{kept_grid}
 use Rattle.decided.specs.RunsLaws.{Small}
 use Rattle.decided.specs.declared.EdgeRun.{EdgeRun}
@@ -65,7 +65,23 @@ module _ (d : Decision) (size : d.size ≤ 2) (level : d.level ≤ 63) where
   unfolding key_of
   key_size h = grind (arith, common_steps)
 
+  key_small : key_of d < 192
+  unfolding key_of
+  key_small = grind (arith, common_steps)
+
 module _ (s : Superblock) (pass : Pass) (chroma : Bool) (cells : List ℕ) where
+  at_small : (edge c : ℕ) → key_at s pass chroma cells edge c < 192
+  unfolding key_at
+  at_small edge c = key_small _ (decision_size s pass chroma cells edge (cell_start s pass c)) (decision_level s pass chroma cells edge (cell_start s pass c))
+
+  list_small : (parity k : ℕ) → k < 64 → get_or (keys_of s pass chroma cells parity) k 0 < 192
+  unfolding keys_of key_in
+  list_small parity k h = rw (table_at (key_in s pass chroma cells parity) 64 k h) (by (ltb (2 * (k / 8) + parity) (edge_count s pass)))
+    where
+      by : (b : Bool) → cond b (key_at s pass chroma cells (2 * (k / 8) + parity) (k % 8)) 0 < 192
+      by true = at_small (2 * (k / 8) + parity) (k % 8)
+      by false = omega arith
+
   -- cell c of edge 2 * e + parity
   list_key : (parity e c : ℕ) → 2 * e + parity < edge_count s pass → c < 8
       → get_or (keys_of s pass chroma cells parity) (8 * e + c) 0 ≡ key_at s pass chroma cells (2 * e + parity) c
@@ -76,6 +92,9 @@ module _ (s : Superblock) (pass : Pass) (chroma : Bool) (cells : List ℕ) where
       table_at (key_in s pass chroma cells parity) 64 (8 * e + c) (omega (arith, edge_count_small s pass)) ∙ (rw (row, column, lt-ltb (2 * e + parity) (edge_count s pass) h))
 
   module _ (outer inner : List ℕ) (even : outer ≡ keys_of s pass chroma cells 0) (odd : inner ≡ keys_of s pass chroma cells 1) where
+    pub keys_small : Keyed outer inner
+    keys_small = record { even = λ k h. rw even (list_small 0 k h); odd = λ k h. rw odd (list_small 1 k h) }
+
     pub key_for_lem : (edge c : ℕ) → edge < edge_count s pass → c < 8 → key_for outer inner edge c ≡ key_at s pass chroma cells edge c
     unfolding key_for
     key_for_lem edge c h k = by (eqb (edge % 2) 0) refl

@@ -3,3 +3,4 @@ pub mod KeyRunLaws
 pub mod CellRunLaws
 pub mod RunsLaws
 pub mod AllRuns
+pub mod CellWalk

@@ -6,3 +6,4 @@ pub mod RunsLaws
 pub mod KeyRuns
 pub mod CellsLeft
 pub mod RunsLeft
+pub mod CellWalk

@@ -116,7 +116,7 @@ module _ (s : Superblock) (pass : Pass) (chroma : Bool) (cells : List ℕ) (p : 
       ∙ (rw (word_at s pass chroma cells p lent words are at (omega (arith, edge_pairs s pass chroma)), cell)
       (rw (edge, cell) at (lack_by_lem s pass chroma cells p lent at (k / 8 % 2) (omega arith) (omega arith)))))
 
-  first_told : cell_place (turned_of s pass chroma).paired (first (lack_at (turned_of s pass chroma) words) (16 * pairs (turned_of s pass chroma).sub)) ≡ first (levelless s pass chroma cells) (64 * edge_count s pass)
+  pub first_told : cell_place (turned_of s pass chroma).paired (first (lack_at (turned_of s pass chroma) words) (16 * pairs (turned_of s pass chroma).sub)) ≡ first (levelless s pass chroma cells) (64 * edge_count s pass)
   first_told =
       let t = turned_of s pass chroma in
       let count : 16 * pairs t.sub ≡ 8 * edge_count s pass = omega (arith, edge_pairs s pass chroma) in
@@ -132,11 +132,14 @@ module _ (s : Superblock) (pass : Pass) (chroma : Bool) (cells : List ℕ) (p : 
       let count : 16 * pairs t.sub ≡ 8 * edge_count s pass = omega (arith, edge_pairs s pass chroma) in
       ap (λ (n : ℕ). found (lack_at t words) n) count ∙ found_same (lack_at t words) _ (8 * edge_count s pass) lack_at_lem ∙ found_cells s pass chroma cells (edge_count s pass)
 
+  pub lacks_by : found (plain_lack (turned_of s pass chroma) words) (8 * pairs (turned_of s pass chroma).sub) ≡ found (levelless s pass chroma cells) (64 * edge_count s pass)
+  lacks_by = pairs_told (turned_of s pass chroma) words ∙ found_told
+
   pub told : (r : Keys) → PlainTold (turned_of s pass chroma) words r → Told s pass chroma cells r
   told r plain = (
     plain.0 ∙ keys_by s pass chroma cells p lent words are 0 (omega arith),
     plain.1 ∙ keys_by s pass chroma cells p lent words are 1 (omega arith),
-    plain.2 ∙ (rw (pairs_told, found_told, first_told) (twice (found (levelless s pass chroma cells) (64 * edge_count s pass)) (first (levelless s pass chroma cells) (64 * edge_count s pass)))),
+    plain.2 ∙ (rw (lacks_by, found_told, first_told) (twice (found (levelless s pass chroma cells) (64 * edge_count s pass)) (first (levelless s pass chroma cells) (64 * edge_count s pass)))),
   )
     where
       twice : (b : Bool) (x : ℕ) → cond b (cond b (Some x) None) None ≡ cond b (Some x) None

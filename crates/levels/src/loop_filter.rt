@@ -1,5 +1,5 @@
 // The level table of a frame (8.8.1), in the order of the Rust's loop_filter.rs.
-ghost use Rattle.std.specs.Prelude.{◌≡◌, ◌*◌, ◌/◌, ◌≤◌, ◌<◌, pos, ◌+ℤ◌};
+ghost use Rattle.std.specs.Prelude.{◌≡◌, ◌*◌, ◌/◌, ◌≤◌, ◌<◌, pos, ◌+ℤ◌, ℕ, get_or, replicate};
 ghost use Rattle.std.specs.Int.Signed.{mag};
 ghost use Rattle.base.specs.Filled.{filled};
 ghost use Rattle.base.specs.Notation.{shl_z};
@@ -99,16 +99,41 @@ impl TestedFrame {
         }
     }
 
+    // The levels of the eight segments, over their numbers, which no list holds. By a loop of its own, which is unrolled: in the
+    // table's loop the header was copied for each segment.
+    #[tactic(auto, using(base::specs::Filled::filled_none, base::specs::Filled::filled_more))]
+    fn segment_levels(self, seg: SegmentationParams) -> [u8; 8]
+        ensures { result ≡ filled (lvl_seg self.lf seg) 0 8 (replicate 8 0) }
+    {
+        let mut levels = [0; 8];
+        for segment in 0..8 {
+            levels[segment] = self.segment_level(seg, segment);
+        }
+        levels
+    }
+
+    // What the entries are made from: the levels of the segments, or 0 where deltas are off and updated, since step 3 then leaves 0
+    // whatever they are.
+    #[tactic(auto, using(crate::proofs::LevelLaws::of_segments, crate::proofs::LevelLaws::none_counts))]
+    fn counted_levels(self, seg: SegmentationParams) -> [u8; 8]
+        ensures { (segment k : ℕ) → segment < 8 → segment_lvl self.lf self.deltas (get_or result segment 0) k ≡ segment_lvl self.lf self.deltas (lvl_seg self.lf seg segment) k }
+    {
+        if !self.lf.delta_enabled & self.lf.delta_update {
+            return [0; 8];
+        }
+        self.segment_levels(seg)
+    }
+
     // The table.
-    #[tactic(auto, using(base::specs::Filled::filled_none, crate::proofs::LevelLaws::segment_more))]
+    #[tactic(auto, using(base::specs::Filled::filled_none))]
     fn levels(self, seg: SegmentationParams) -> [u8; 64]
         ensures { result ≡ filled (place_lvl self.lf seg self.deltas) 0 64 zero_levels }
     {
+        let segments = self.counted_levels(seg);
         let mut levels = [0; 64];
-        // Over the numbers of the segments, which no list holds.
+        // Over the numbers of the segments, by which the entries stand too.
         for segment in 0..8 {
-            let lvl = self.segment_level(seg, segment);
-            self.store_segment(&mut levels, lvl, segment);
+            self.store_segment(&mut levels, segments[segment], segment);
         }
         levels
     }

@@ -1,6 +1,6 @@
 -- Table M of document 01: worked examples, each with what the definitions give for it. One list, and one computed result.
 -- Assumes nothing.
-use Rattle.std.specs.Prelude.{◌≡◌, refl, Bool, true, false, cond, Some, None, List, [], ◌∷◌, ◌++◌, map, ℕ, pos, replicate, set, take, drop}
+use Rattle.std.specs.Prelude.{◌≡◌, refl, Bool, true, false, Some, None, List, [], ◌∷◌, ◌++◌, map, ℕ, pos, replicate, set, take, drop}
 use Rattle.base.specs.Depth.{supported}
 use Rattle.base.specs.Filled.{filled}
 use Rattle.base.specs.First.{found, first_from}
@@ -40,10 +40,10 @@ header : LoopFilterParams
 header =
     record { level = 40; sharpness = 0; delta_enabled = true; delta_update = false; ref_deltas = replicate 4 absent; mode_deltas = replicate 2 absent }
 
--- no segment has a level of its own, or segment 0 has the absolute level 20
+-- segment 0 has the absolute level 20, which counts where segments are enabled
 segments : Bool → SegmentationParams
 segments on =
-    record { enabled = on; abs_or_delta_update = on; features = set (replicate 32 None) (feature_at 0 1) (cond on (Some (pos 20)) None) }
+    record { enabled = on; abs_or_delta_update = on; features = set (replicate 32 None) (feature_at 0 1) (Some (pos 20)) }
 
 -- the first entries of segment 0: intra, last, golden, altref, each for mode types 0 and 1
 levels : Bool → ℕ → List ℕ
