@@ -10,22 +10,23 @@ use Rattle.lane_runs.specs.Spread.{place_of, PlacesApart, Spread, SpacedRun}
 use Rattle.lane_runs.specs.SpreadLaws.{rows_apart, spread_no_taps, spread-tap}
 
 -- one sample more
-row_more : (s : List ℕ) (p n at : ℕ) (d : List ℕ) → p + n < length s → at + n < length d → set (row_copied s p n at d) (at + n) (get_or s (p + n) 0) ≡ row_copied s p (suc n) at d
-row_more s p n at d h g =
+pub row_more : {A : Type 0} (s : List A) (p n at : ℕ) (d : List A) (z : A) → p + n < length s → at + n < length d
+    → set (row_copied s p n at d) (at + n) (get_or s (p + n) z) ≡ row_copied s p (n + 1) at d
+row_more {A} s p n at d z h g =
     let front : length (take at d) ≡ at = length-take-le at d (omega arith) in
-    set-append_right (take at d) (copied (drop p s) n (drop at d)) at (at + n) (get_or s (p + n) 0) front (omega arith)
-    ∙ ap (λ (x : List ℕ). take at d ++ x) (rest (at + n - at) (omega arith))
+    set-append_right (take at d) (copied (drop p s) n (drop at d)) at (at + n) (get_or s (p + n) z) front (omega arith)
+    ∙ ap (λ (x : List A). take at d ++ x) (rest (at + n - at) (omega arith))
   where
-    rest : (i : ℕ) → i ≡ n → set (copied (drop p s) n (drop at d)) i (get_or s (p + n) 0) ≡ copied (drop p s) (suc n) (drop at d)
+    rest : (i : ℕ) → i ≡ n → set (copied (drop p s) n (drop at d)) i (get_or s (p + n) z) ≡ copied (drop p s) (n + 1) (drop at d)
     rest i e =
-        rw (e, ← get_or-drop p s n 0, ← add-one n)
-        (copied_more (drop p s) (drop at d) n 0 (omega (arith, length-drop p s)) (omega (arith, length-drop at d)))
+        rw (e, ← get_or-drop p s n z)
+        (copied_more (drop p s) (drop at d) n z (omega (arith, length-drop p s)) (omega (arith, length-drop at d)))
 
 pub row_scattered : (s : List ℕ) (p n at : ℕ) (d : List ℕ) → p + n ≤ length s → at + n ≤ length d → row_copied s p n at d ≡ scatter (λ l. true) (λ l. at + l) (λ l. get_or s (p + l) 0) n d
 unfolding scatter
 row_scattered s p zero at d h g = take-append-drop at d
 row_scattered s p (suc n) at d h g =
-    sym (row_more s p n at d (omega arith) (omega arith))
+    sym (rw (add-one n) at (row_more s p n at d 0 (omega arith) (omega arith)))
     ∙ ap (λ (x : List ℕ). set x (at + n) (get_or s (p + n) 0)) (row_scattered s p n at d (omega arith) (omega arith))
 
 -- one row more

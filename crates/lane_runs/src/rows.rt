@@ -18,11 +18,14 @@ pub struct Rows {
     pub ghost few: { lo + m ≤ 16 },
 }
 
+// One by one: copy_from_slice of a length that is no constant calls the C library's memmove, which nothing else in the archive needs.
 fn copy_samples<T: Copy>(to: &mut [T], at: usize, from: &[T], place: usize, n: usize)
     requires { (at + n ≤ length to.old) × (place + n ≤ length from.now) }
     ensures { to.new ≡ row_copied from.now place n at to.old }
 {
-    to[at..at + n].copy_from_slice(&from[place..place + n]);
+    for k in 0..n {
+        to[at + k] = from[place + k];
+    }
 }
 
 // A row goes through an array of its own, which is known to share no sample with either list, so that it is copied as one vector.
