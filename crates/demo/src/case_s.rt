@@ -1,11 +1,11 @@
 // Prints the packed cells of a built-in row: two blocks side by side, case S of document 01.
-use crate::output::yes_or_no;
-use anyhow::Result;
+use crate::output::{refused, yes_or_no};
 use base::fault::Fault;
 use cells::LfCell;
 use row::mode_info::ModeInfoLists;
 use row::numbers::RowNumbers;
 use row::row_cells;
+use std::io;
 
 // Both blocks have 8 by 8 samples, and the frame has no other cells.
 pub(crate) const MI_SIZE: u8 = 3;
@@ -44,7 +44,7 @@ pub(crate) fn made_row() -> Result<[u32; 2], Fault> {
     Ok(cells)
 }
 
-fn print_cell(rt: &impl Print, index: usize, word: u32) -> Result<()> {
+fn print_cell(rt: &impl Print, index: usize, word: u32) -> io::Result<()> {
     let cell = LfCell::from(word);
     println!(rt;
         "cell {index}, word {word:08x}: width {} {}, height {} {}, transform {}, chroma transform {}, skipped {}, level {}",
@@ -56,12 +56,11 @@ fn print_cell(rt: &impl Print, index: usize, word: u32) -> Result<()> {
         cell.uvtx,
         yes_or_no(cell.skipped),
         cell.level
-    )?;
-    Ok(())
+    )
 }
 
-pub(crate) fn print_row(rt: &impl Print) -> Result<()> {
-    let cells = made_row()?;
+pub(crate) fn print_row(rt: &impl Print) -> io::Result<()> {
+    let cells = made_row().map_err(refused)?;
     println!(rt;
         "cells of two 8x8 blocks; width and height are log2 in 8-sample blocks, for subsampling 0 and 1"
     )?;

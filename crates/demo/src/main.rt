@@ -11,14 +11,14 @@ mod sheet_step;
 mod step;
 mod superblock;
 
-use anyhow::Result;
 use case_s::print_row;
 use frame_header::{LoopFilterParams, SegmentationParams};
 use level_lookup::LvlLookup;
 use levels::loop_filter::level_table;
-use output::print_numbers;
+use output::{print_numbers, refused};
 use position::print_edges;
 use sheet_step::print_sheet;
+use std::io;
 use step::print_line;
 use strength::strength_for_level;
 use superblock::print_superblock;
@@ -46,24 +46,23 @@ fn segments() -> SegmentationParams {
     }
 }
 
-fn print_segment(rt: &impl Print, table: &LvlLookup, segment: usize) -> Result<()>
+fn print_segment(rt: &impl Print, table: &LvlLookup, segment: usize) -> io::Result<()>
     requires { segment < 8 }
 {
     print!(rt; "segment {segment}:")?;
     print_numbers(rt, &table.levels[8 * segment..8 * segment + 8])
 }
 
-fn print_strength(rt: &impl Print, lvl: u8, sharpness: u8) -> Result<()> {
-    let found = strength_for_level(lvl, sharpness)?;
+fn print_strength(rt: &impl Print, lvl: u8, sharpness: u8) -> io::Result<()> {
+    let found = strength_for_level(lvl, sharpness).map_err(refused)?;
     println!(rt;
         "level {lvl} sharpness {sharpness}: limit {}, blimit {}, thresh {}",
         found.limit, found.blimit, found.thresh
-    )?;
-    Ok(())
+    )
 }
 
-fn main(rt: HostRuntime) -> Result<()> {
-    let table = level_table(header(), segments())?;
+fn main(rt: HostRuntime) -> io::Result<()> {
+    let table = level_table(header(), segments()).map_err(refused)?;
     println!(rt; "levels of intra, last, golden, altref, each for mode types 0 and 1")?;
     print_segment(&rt, &table, 0)?;
     print_segment(&rt, &table, 1)?;

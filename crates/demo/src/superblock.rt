@@ -1,10 +1,9 @@
 // Prints the superblock of the built-in row, 16 by 8 samples with a step between its blocks, before and after a pass.
 use crate::case_s::{MI_COLS, MI_ROWS, made_row};
-use crate::output::print_numbers;
-use anyhow::Result;
+use crate::output::{print_numbers, refused};
 use base::fault::Fault;
 use geometry::pass_numbers::PassNumbers;
-use std::array;
+use std::{array, io};
 use superblock_pass::superblock_loop_filter_cells;
 use window::WindowShape;
 
@@ -25,7 +24,7 @@ fn superblock() -> [u16; 128] {
     array::from_fn(sample)
 }
 
-fn print_rows(rt: &impl Print, samples: &[u16; 128]) -> Result<()> {
+fn print_rows(rt: &impl Print, samples: &[u16; 128]) -> io::Result<()> {
     for row in samples.chunks(16) {
         print_numbers(rt, row)?;
     }
@@ -56,13 +55,13 @@ fn filter(samples: &mut [u16], cells: &[u32]) -> Result<(), Fault> {
 }
 
 // The place of the refusal is 64 times the edge and the position along it: edge 2 lies between the blocks.
-pub(crate) fn print_superblock(rt: &impl Print) -> Result<()> {
-    let cells = made_row()?;
+pub(crate) fn print_superblock(rt: &impl Print) -> io::Result<()> {
+    let cells = made_row().map_err(refused)?;
     println!(rt; "the superblock of these blocks, 16 by 8 samples")?;
     let mut samples = superblock();
     println!(rt; "before the pass over its vertical edges")?;
     print_rows(rt, &samples)?;
-    filter(&mut samples, &cells)?;
+    filter(&mut samples, &cells).map_err(refused)?;
     println!(rt; "after")?;
     print_rows(rt, &samples)?;
     if let Err(fault) = filter(&mut superblock(), &[cells[0], WITHOUT_LEVEL]) {
