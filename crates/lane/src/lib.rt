@@ -103,12 +103,8 @@ impl<T: Copy> Lane<T> {
     pub fn four(self) -> Four<T>
         ensures { result ≡ record { p1 = self.p1; p0 = self.p0; q0 = self.q0; q1 = self.q1 } }
     {
-        Four {
-            p1: self.p1,
-            p0: self.p0,
-            q0: self.q0,
-            q1: self.q1,
-        }
+        let Lane { p1, p0, q0, q1, .. } = self;
+        Four { p1, p0, q0, q1 }
     }
 
     pub fn six(self) -> Six<T>
